@@ -1,0 +1,8 @@
+mod Places
+mod Steps
+mod Horizons
+mod Clashes
+mod Walks
+mod KnownNumbers
+mod Entries
+mod SceneSteps
