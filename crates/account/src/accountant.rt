@@ -7,6 +7,7 @@ ghost use Rattle.words.specs.Bits.{is-group};
 use crate::certify::Kept;
 
 pub mod ops;
+pub mod questions;
 
 /// The account so far of a group of `sites` sites, after so many places.
 #[derive(Drop)]

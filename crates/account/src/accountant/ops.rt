@@ -1,16 +1,12 @@
 // What an accountant does: it decides one message after another.
 ghost use mathlib.Core.Path.{_≡_};
-ghost use mathlib.Core.List.{map, _∷_, _++_, []};
-ghost use lib.ListN.{length};
-ghost use Prim.Native.Nat.{min, _≤_, _<_};
+ghost use Prim.Native.Nat.{_<_};
 ghost use Rattle.std.specs.Of.Vec.{vec-items, vec-len};
-ghost use Rattle.std.specs.Vec.{made};
 ghost use Rattle.std.specs.declared.option.Option.the-variants.{Some};
 ghost use Rattle.std.specs.declared.result.Result.the-variants.{Ok};
 ghost use Rattle.words.specs.Messages.{an-edit, a-report, message-of};
 ghost use Rattle.account.specs.declared.decisions.Decision.the-variants.{Noted};
-ghost use Rattle.account.specs.Account.{least, raise, horizon, last-version, judged};
-ghost use Rattle.account.specs.SceneMaps.{Shows};
+ghost use Rattle.account.specs.Account.{raise, judged};
 ghost use Rattle.account.specs.Books.{books, Made, Entered, Lawful};
 use super::Accountant;
 use crate::certify::Kept;
@@ -19,9 +15,6 @@ use crate::decisions::Decision;
 use crate::decisions::Fault;
 use crate::decisions::FaultFromAlloc;
 use crate::decisions::FaultFromRefused;
-use crate::scenes::Scene;
-use crate::scenes::lay;
-use std::alloc::AllocError;
 use std::alloc::Global;
 use words::changes::Write;
 use words::changes::read_writes;
@@ -30,20 +23,6 @@ use words::messages::read_message;
 
 // The last place that a list can have.
 const LAST_PLACE: u32 = 268_435_455;
-
-// The least of the numbers; 0 of none.
-fn find_least(numbers: &[u32]) -> u32
-    ensures { λ r. ⌜ r ≡ least (now (numbers .entry)) ⌝ }
-{
-    let [first, rest @ ..] = numbers else {
-        return 0;
-    };
-    let mut low = *first;
-    for number in rest {
-        low = low.min(*number);
-    }
-    low
-}
 
 // Number `i` becomes the larger of itself and `floor`.
 fn lift(numbers: &mut Vec<u32>, i: usize, floor: u32)
@@ -70,34 +49,6 @@ impl Accountant {
             commits: Vec::new(heap),
             known,
         })
-    }
-
-    /// How many sites the group has.
-    pub fn sites(&self) -> u32
-        ensures { λ r. ⌜ r ≡ books (now (self .entry)) .sites ⌝ }
-    {
-        self.sites
-    }
-
-    /// How many places are decided.
-    pub fn places(&self) -> u32
-        ensures { λ r. ⌜ r ≡ books (now (self .entry)) .places ⌝ }
-    {
-        self.places
-    }
-
-    /// The number of commits so far.
-    pub fn last_version(&self) -> u32
-        ensures { λ r. ⌜ r ≡ last-version (books (now (self .entry)) .account) ⌝ }
-    {
-        self.commits.len() as u32
-    }
-
-    /// The least known number.
-    pub fn horizon(&self) -> u32
-        ensures { λ r. ⌜ r ≡ horizon (books (now (self .entry)) .account) ⌝ }
-    {
-        find_least(self.known.as_slice())
     }
 
     /// Decides the words of the next place.
@@ -127,13 +78,6 @@ impl Accountant {
                 self.enter(site, ticket, snapshot, writes)
             }
         }
-    }
-
-    /// The scene that all commits so far leave: the items that are present, by rising item.
-    pub fn scene(&self, heap: Global) -> Result<Scene, AllocError>
-        ensures { λ r. ⌜ made r (λ m. Shows m (books (now (self .entry)) .account .commits)) ⌝ }
-    {
-        lay(heap, self.commits.as_slice())
     }
 
     // Takes a report of a version: it counts as no more than the last one.

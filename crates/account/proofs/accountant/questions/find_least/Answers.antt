@@ -5,7 +5,7 @@ use borrow.Author.Needs.{needs}
 use lib.ListN.{length, getD, drop}
 use Rattle.std.proofs.shelf.Lists.{take-rest}
 use Rattle.account.proofs.KnownNumbers.{least-from, least-none, least-more, least-all, least-parts}
-use Rattle.account.proofs.accountant.ops.find_least.Needs as need
+use Rattle.account.proofs.accountant.questions.find_least.Needs as need
 
 pub returns-in-rest : need.returns-in-rest
 returns-in-rest c = let h : length (c .args .numbers .now) ≡ 0 = search needs in least-none (c .args .numbers .now) h
