@@ -5,12 +5,13 @@ use mathlib.Core.Bool.{true, false}
 use Prim.Native.Nat.{ℕ, _+_, _<_}
 use lib.ListN.{length}
 use Rattle.std.specs.declared.option.Option.{Option}
+use Rattle.std.specs.declared.option.Option.the-variants.{Some, None}
 use Rattle.std.specs.declared.result.Result.{Result}
 use Rattle.std.specs.declared.result.Result.the-variants.{Ok, Err}
 use Rattle.std.specs.Of.Vec.{vec-items}
 use Rattle.std.specs.Vec.{made}
 use Rattle.words.specs.Bits.{is-group}
-use Rattle.words.specs.Messages.{MessageValue}
+use Rattle.words.specs.Messages.{MessageValue, an-edit, a-report}
 use Rattle.account.specs.declared.decisions.Decision.{Decision}
 use Rattle.account.specs.declared.decisions.Fault.{Fault}
 use Rattle.account.specs.declared.decisions.Fault.the-variants.{GroupSize, TooManyPlaces, NoMemory}
@@ -41,13 +42,19 @@ Made n (Err GroupSize) = is-group n ≡ false
 Made n (Err TooManyPlaces) = ⊥
 Made n (Err NoMemory) = is-group n ≡ true
 
+-- Only an edit takes memory.
+abbrev pub Takes-memory : Option MessageValue → Type 0
+Takes-memory None = ⊥
+Takes-memory (Some (a-report i r)) = ⊥
+Takes-memory (Some (an-edit h t s l)) = Unit {0}
+
 -- Entering a message, or words that are none: the decision and the books after it; a refusal leaves them as they were.
 abbrev pub Entered : Books → Books → Option MessageValue → Result Decision Fault → Type 0
 Entered b b′ m (Ok d) =
     (b .places < 268435455) × (d ≡ decide (b .account) m) × (b′ ≡ some-books (b .sites) (b .places + 1) (next (b .account) m))
 Entered b b′ m (Err GroupSize) = ⊥
 Entered b b′ m (Err TooManyPlaces) = (b .places ≡ 268435455) × (b′ ≡ b)
-Entered b b′ m (Err NoMemory) = (b .places < 268435455) × (b′ ≡ b)
+Entered b b′ m (Err NoMemory) = (b .places < 268435455) × Takes-memory m × (b′ ≡ b)
 
 -- For every list that led to the books as they stood, the decision is the account's for the list with this message.
 abbrev pub Lawful : Books → Books → List ℕ → Result Decision Fault → Type 0
