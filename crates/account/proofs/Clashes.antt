@@ -40,12 +40,12 @@ module _ (l : List Write) where
   passed true v o e = absurd (let z : _≡_ {A = ℕ} 0 1 = cc in omega arith)
   passed false v o e = (refl, e)
 
-  no-clash : (v : ℕ) (cs : List Committed) → lowest-clash l v cs ≡ None → (j : ℕ) (c : Committed) → nth cs j ≡ Some c → meets l (c .writes) ≡ false
+  no-clash : (v : ℕ) (cs : List Committed) → lowest-clash l v cs ≡ None → (j : ℕ) (c : Committed) → nth cs j ≡ Some c → meets (c .writes) l ≡ false
   no-clash v [] e j c h = absurd (let z : _≡_ {A = ℕ} 0 1 = cc in omega arith)
   no-clash v (x ∷ cs) e zero c h =
       let f : x ≡ c = cc in
-      ap (λ y. meets l (y .writes)) (sym f) ∙ passed (meets l (x .writes)) v (lowest-clash l (suc v) cs) e .0
-  no-clash v (x ∷ cs) e (suc j) c h = no-clash (suc v) cs (passed (meets l (x .writes)) v (lowest-clash l (suc v) cs) e .1) j c h
+      ap (λ y. meets (y .writes) l) (sym f) ∙ passed (meets (x .writes) l) v (lowest-clash l (suc v) cs) e .0
+  no-clash v (x ∷ cs) e (suc j) c h = no-clash (suc v) cs (passed (meets (x .writes) l) v (lowest-clash l (suc v) cs) e .1) j c h
 
   -- the lowest clash: its place in the list, and none before it
   record Lowest (v : ℕ) (cs : List Committed) (w : ℕ) : Type 0 where
@@ -53,10 +53,10 @@ module _ (l : List Write) where
     commit : Committed
     version : w ≡ suc (v + index)
     there : nth cs index ≡ Some commit
-    meeting : meets l (commit .writes) ≡ true
-    clear : (j : ℕ) (c : Committed) → j < index → nth cs j ≡ Some c → meets l (c .writes) ≡ false
+    meeting : meets (commit .writes) l ≡ true
+    clear : (j : ℕ) (c : Committed) → j < index → nth cs j ≡ Some c → meets (c .writes) l ≡ false
 
-  clash-step : (b : Bool) (v w : ℕ) (x : Committed) (cs : List Committed) → meets l (x .writes) ≡ b →
+  clash-step : (b : Bool) (v w : ℕ) (x : Committed) (cs : List Committed) → meets (x .writes) l ≡ b →
       cond b (Some (suc v)) (lowest-clash l (suc v) cs) ≡ Some w → (lowest-clash l (suc v) cs ≡ Some w → Lowest (suc v) cs w) → Lowest v (x ∷ cs) w
   clash-step true v w x cs m e more =
       let f : w ≡ suc v = cc in
@@ -72,14 +72,14 @@ module _ (l : List Write) where
         clear = under (k .index) (k .clear);
       }
     where
-      under : (i : ℕ) → ((j : ℕ) (c : Committed) → j < i → nth cs j ≡ Some c → meets l (c .writes) ≡ false) →
-          (j : ℕ) (c : Committed) → j < suc i → nth (x ∷ cs) j ≡ Some c → meets l (c .writes) ≡ false
-      under i clear zero c h t = let f : x ≡ c = cc in ap (λ y. meets l (y .writes)) (sym f) ∙ m
+      under : (i : ℕ) → ((j : ℕ) (c : Committed) → j < i → nth cs j ≡ Some c → meets (c .writes) l ≡ false) →
+          (j : ℕ) (c : Committed) → j < suc i → nth (x ∷ cs) j ≡ Some c → meets (c .writes) l ≡ false
+      under i clear zero c h t = let f : x ≡ c = cc in ap (λ y. meets (y .writes) l) (sym f) ∙ m
       under i clear (suc j) c h t = clear j c (omega arith) t
 
   clash-found : (v : ℕ) (cs : List Committed) (w : ℕ) → lowest-clash l v cs ≡ Some w → Lowest v cs w
   clash-found v [] w e = absurd (let z : _≡_ {A = ℕ} 0 1 = cc in omega arith)
-  clash-found v (x ∷ cs) w e = clash-step (meets l (x .writes)) v w x cs refl e (clash-found (suc v) cs w)
+  clash-found v (x ∷ cs) w e = clash-step (meets (x .writes) l) v w x cs refl e (clash-found (suc v) cs w)
 
 -- the commit of a version above the snapshot, in the list of those above it
 above : (cs rest : List Committed) (s w : ℕ) (c : Committed) → s < w → w ≤ length cs → commit-of (cs ++ rest) w ≡ Some c →

@@ -32,13 +32,13 @@ meets-all m i l h = at-drop-all (λ k. meets k m) l i h
 
 -- the commits above version v, by the next one
 module _ (l : List Write) (v : ℕ) (cs : List Kept) where
-  pub clash-more : (d : Kept) (b : Bool) → v < length cs → meets l (committed (getD cs v d) .writes) ≡ b →
+  pub clash-more : (d : Kept) (b : Bool) → v < length cs → meets (committed (getD cs v d) .writes) l ≡ b →
       lowest-clash l v (drop v (map committed cs)) ≡ cond b (Some (v + 1)) (lowest-clash l (v + 1) (drop (v + 1) (map committed cs)))
   clash-more d b h e =
       let k : v < length (map committed cs) = omega (arith, length-map cs committed) in
       at-drop-more (lowest-clash l v) (map committed cs) v (committed d) k
       ∙ ap (λ x. cond x (Some (suc v)) (lowest-clash l (suc v) (drop (v + 1) (map committed cs))))
-      (ap (λ c. meets l (c .writes)) (getD-map committed cs v d (committed d) h) ∙ e)
+      (ap (λ c. meets (c .writes) l) (getD-map committed cs v d (committed d) h) ∙ e)
       ∙ ap (λ n. cond b (Some n) (lowest-clash l n (drop (v + 1) (map committed cs)))) (sym (add-one v))
 
   pub clash-all : length cs ≤ v → lowest-clash l v (drop v (map committed cs)) ≡ None

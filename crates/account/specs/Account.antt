@@ -62,7 +62,7 @@ meets (w ∷ l) m = touches (w .item) m || meets l m
 -- The lowest version above v whose commit writes an item of l; the list holds the commits above v.
 abbrev pub lowest-clash : List Write → ℕ → List Committed → Option ℕ
 lowest-clash l v [] = None
-lowest-clash l v (c ∷ cs) = cond (meets l (c .writes)) (Some (suc v)) (lowest-clash l (suc v) cs)
+lowest-clash l v (c ∷ cs) = cond (meets (c .writes) l) (Some (suc v)) (lowest-clash l (suc v) cs)
 
 -- An edit by its three tests: ahead of the last version, older than the horizon, in conflict.
 abbrev pub ruling : Bool → Bool → Option ℕ → ℕ → Decision

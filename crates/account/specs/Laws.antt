@@ -24,7 +24,7 @@ Horizon-rises = (n : ℕ) (front rest : List (List ℕ)) →
 
 -- No commit above version s and below version v wrote an item of l.
 abbrev pub Clear-between : List Committed → List Write → ℕ → ℕ → Type 0
-Clear-between cs l s v = (w : ℕ) (c : Committed) → s < w → w < v → commit-of cs w ≡ Some c → meets l (c .writes) ≡ false
+Clear-between cs l s v = (w : ℕ) (c : Committed) → s < w → w < v → commit-of cs w ≡ Some c → meets (c .writes) l ≡ false
 
 -- Place k of the list (from 0) is an edit by h with ticket t, snapshot s and writes l, decided as d.
 pub record Decided-edit (n : ℕ) (ms : List (List ℕ)) (k h t s : ℕ) (l : List Write) (d : Decision) : Type 0 where
@@ -41,5 +41,5 @@ Commits-clear = (n : ℕ) (ms : List (List ℕ)) (k h t s : ℕ) (l : List Write
 -- A conflict names a commit above the snapshot that wrote one of the edit's items, and the lowest such.
 abbrev pub Conflicts-lowest : Type 0
 Conflicts-lowest = (n : ℕ) (ms : List (List ℕ)) (k h t s : ℕ) (l : List Write) (w : ℕ) → Decided-edit n ms k h t s l (Conflict w) →
-    (s < w) × ((c : Committed) × ((commit-of (commits-of n ms) w ≡ Some c) × (meets l (c .writes) ≡ true)))
+    (s < w) × ((c : Committed) × ((commit-of (commits-of n ms) w ≡ Some c) × (meets (c .writes) l ≡ true)))
     × Clear-between (commits-of n ms) l s w

@@ -15,8 +15,8 @@ pub struct Kept {
     pub writes: Vec<Write>,
 }
 
-// Whether one of the writes is to the item.
-fn has_item(writes: &[Write], item: u32) -> bool
+/// Whether one of the writes is to the item.
+pub fn has_item(writes: &[Write], item: u32) -> bool
     ensures { λ r. ⌜ r ≡ touches item (now (writes .entry)) ⌝ }
 {
     for write in writes {
@@ -28,11 +28,11 @@ fn has_item(writes: &[Write], item: u32) -> bool
 }
 
 // Whether the two lists have an item in common.
-fn do_meet(ours: &[Write], theirs: &[Write]) -> bool
-    ensures { λ r. ⌜ r ≡ meets (now (ours .entry)) (now (theirs .entry)) ⌝ }
+fn do_meet(theirs: &[Write], ours: &[Write]) -> bool
+    ensures { λ r. ⌜ r ≡ meets (now (theirs .entry)) (now (ours .entry)) ⌝ }
 {
-    for write in ours {
-        if has_item(theirs, write.item) {
+    for write in theirs {
+        if has_item(ours, write.item) {
             return true;
         }
     }
@@ -46,7 +46,7 @@ pub(crate) fn find_clash(commits: &[Kept], snapshot: u32, writes: &[Write]) -> O
 {
     let mut version = snapshot as usize;
     while version < commits.len() {
-        if do_meet(writes, commits[version].writes.as_slice()) {
+        if do_meet(commits[version].writes.as_slice(), writes) {
             return Some(version as u32 + 1);
         }
         version += 1;

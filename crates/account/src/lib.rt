@@ -3,7 +3,7 @@
 // `decisions` has the answers, `accountant` decides one message after another and keeps every commit,
 // `certify` looks for conflicts, `scenes` applies commits, and `laws` states what holds of every list.
 pub mod accountant;
-pub(crate) mod certify;
+pub mod certify;
 pub mod decisions;
 pub mod laws;
 pub mod scenes;

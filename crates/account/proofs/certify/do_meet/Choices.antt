@@ -3,6 +3,6 @@ use lib.ListN.{drop}
 use Rattle.account.specs.Account.{meets}
 use Rattle.account.proofs.certify.do_meet.Given as given
 
--- What is left of our writes decides as the whole did.
+-- What is left of their writes decides as the whole did.
 abbrev pub Inv-loop-write : given.InvT-loop-write
-Inv-loop-write l = meets (drop (l .write-index) (l .ours)) (l .theirs) ≡ meets (l .ours) (l .theirs)
+Inv-loop-write l = meets (drop (l .write-index) (l .theirs)) (l .ours) ≡ meets (l .theirs) (l .ours)
