@@ -1,17 +1,15 @@
 -- Values, changes and writes: their words, and back.
 use mathlib.Core.Path.{_≡_, refl, sym, ap, _∙_}
 use mathlib.Core.List.{List, [], _∷_}
-use mathlib.Core.Bool.{Bool, true, false, cond, _&&_}
+use mathlib.Core.Bool.{Bool, true, false, cond}
 use mathlib.Core.Logic.{_⊎_, inl, inr}
-use Prim.Native.Nat.{ℕ, suc, _+_, _-_, _*_, _/_, _%_, _^_, _≤_, _<_}
+use Prim.Native.Nat.{ℕ, suc, _-_, _^_, _<_}
 use native.Mathlib.Omega.{arith}
 use lib.Dec.{eqb, leb, ltb}
-use lib.ListN.{length}
 use lib.IntN.{ℤ, pos, negsuc}
 use Rattle.std.specs.declared.option.Option.{Option}
 use Rattle.std.specs.declared.option.Option.the-variants.{Some, None}
-use Rattle.std.specs.Options.{mapped}
-use Rattle.std.proofs.shelf.Tests.{eq-eqb, eqb-true, ltb-true, ltb-false, lt-ltb, le-ltb, le-leb, leb-true, and-parts, and-from}
+use Rattle.std.proofs.shelf.Tests.{eq-eqb, eqb-true, ltb-true, ltb-false, lt-ltb, le-ltb, and-parts, and-from}
 use Rattle.words.specs.declared.changes.Change.{Change}
 use Rattle.words.specs.declared.changes.Change.the-variants.{Set, Remove}
 use Rattle.words.specs.declared.changes.Write.{Write}
@@ -86,7 +84,7 @@ write-read w h f =
     ∙ ap (λ n. Some (a-write n (w .change))) l
 
 -- a write in range and in order, as one test and as its parts
-fits-parts : (low : ℕ) (w : Write) → write-fits low w ≡ true →
+pub fits-parts : (low : ℕ) (w : Write) → write-fits low w ≡ true →
     (leb low (w .item) ≡ true) × (w .item < 268435456) × (change-fits (w .change) ≡ true)
 fits-parts low w e =
     let a = and-parts (leb low (w .item)) _ e in

@@ -1,25 +1,20 @@
 -- Words that are so many writes and nothing else: one step of a walk over them.
 use mathlib.Core.Path.{_≡_, refl, sym, ap, _∙_}
 use mathlib.Core.List.{List, [], _∷_}
-use mathlib.Core.Bool.{Bool, true, false, cond, _&&_}
+use mathlib.Core.Bool.{Bool, true, false, _&&_}
 use Prim.Native.Nat.{ℕ, suc, _+_, _-_, _≤_, _<_}
 use native.Mathlib.Omega.{arith}
 use lib.Dec.{eqb, leb}
 use lib.ListN.{length, drop, length-drop}
 use Rattle.std.specs.declared.option.Option.{Option}
 use Rattle.std.specs.declared.option.Option.the-variants.{Some, None}
-use Rattle.std.specs.Options.{isSome}
 use Rattle.std.proofs.shelf.Lists.{drop-drop}
-use Rattle.std.proofs.shelf.Tests.{ne-eqb, le-leb, lt-leb}
+use Rattle.std.proofs.shelf.Tests.{ne-eqb, le-leb}
 use Rattle.std.proofs.shelf.Ways.{tells}
 use Rattle.words.specs.declared.changes.Write.{Write}
 use Rattle.words.specs.Scans.{write-at}
 use Rattle.words.specs.Writes.{write-of, first-write, after-write, consed, all-writes, rising, rising-count, are-writes}
-
-count-none : (low n : ℕ) (ws : List ℕ) → 0 < n → first-write ws ≡ None → rising-count low n (all-writes ws) ≡ false
-count-none low n [] h p = grind (arith, tells)
-count-none low n (i ∷ []) h p = refl
-count-none low n (i ∷ (c ∷ ws)) h p = ap (λ o. rising-count low n (consed o (all-writes ws))) p
+use Rattle.words.proofs.Fronts.{after-is}
 
 eqb-pred : (a n : ℕ) → 0 < n → eqb (suc a) n ≡ eqb a (n - 1)
 eqb-pred a n h = grind (arith, tells)
@@ -40,9 +35,6 @@ count-consed low n w (Some l) h =
     ap (λ b. b && (leb low (w .item) && rising (suc (w .item)) l)) (eqb-pred (length l) n h)
     ∙ and-swap (eqb (length l) (n - 1)) (leb low (w .item)) (rising (suc (w .item)) l)
 
-after-some : (i c : ℕ) (ws : List ℕ) (w : Write) → write-of i c ≡ Some w → after-write (i ∷ (c ∷ ws)) ≡ ws
-after-some i c ws w p = ap (λ o. cond (isSome o) ws (i ∷ (c ∷ ws))) p
-
 count-some : (low n : ℕ) (ws : List ℕ) (w : Write) → 0 < n → first-write ws ≡ Some w →
     rising-count low n (all-writes ws) ≡ (leb low (w .item) && rising-count (suc (w .item)) (n - 1) (all-writes (after-write ws)))
 count-some low n [] w h p = absurd (let z : _≡_ {A = ℕ} 0 1 = cc in omega arith)
@@ -50,7 +42,7 @@ count-some low n (i ∷ []) w h p = absurd (let z : _≡_ {A = ℕ} 0 1 = cc in 
 count-some low n (i ∷ (c ∷ ws)) w h p =
     ap (λ o. rising-count low n (consed o (all-writes ws))) p
     ∙ count-consed low n w (all-writes ws) h
-    ∙ ap (λ v. leb low (w .item) && rising-count (suc (w .item)) (n - 1) (all-writes v)) (sym (after-some i c ws w p))
+    ∙ ap (λ v. leb low (w .item) && rising-count (suc (w .item)) (n - 1) (all-writes v)) (sym (after-is (i ∷ (c ∷ ws)) w p))
 
 count-end : (low : ℕ) (ws : List ℕ) → rising-count low 0 (all-writes ws) ≡ eqb (length ws) 0
 count-end low [] = refl
@@ -63,25 +55,13 @@ count-end low (i ∷ (c ∷ ws)) =
     none-left low (Some w) None = refl
     none-left low (Some w) (Some l) = grind (arith, tells)
 
--- the words after a first write
-after-first : (ws : List ℕ) (w : Write) → first-write ws ≡ Some w → after-write ws ≡ drop 2 ws
-after-first [] w e = absurd (let z : _≡_ {A = ℕ} 0 1 = cc in omega arith)
-after-first (i ∷ []) w e = absurd (let z : _≡_ {A = ℕ} 0 1 = cc in omega arith)
-after-first (i ∷ (c ∷ ws)) w e = after-some i c ws w e
-
--- at a place of the words: no write there, one write on, and the end
+-- at a place of the words: one write on, and the end
 module _ (ws : List ℕ) (low n p : ℕ) where
-  pub none-at : 0 < n → write-at ws p ≡ None → are-writes low n (drop p ws) ≡ false
-  none-at h e = count-none low n (drop p ws) h e
-
   test-at : (w : Write) → 0 < n → write-at ws p ≡ Some w →
       are-writes low n (drop p ws) ≡ (leb low (w .item) && are-writes (suc (w .item)) (n - 1) (drop (p + 2) ws))
   test-at w h e =
       count-some low n (drop p ws) w h e
-      ∙ ap (λ v. leb low (w .item) && are-writes (suc (w .item)) (n - 1) v) (after-first (drop p ws) w e ∙ drop-drop 2 p ws)
-
-  pub below-at : (w : Write) → 0 < n → write-at ws p ≡ Some w → w .item < low → are-writes low n (drop p ws) ≡ false
-  below-at w h e l = test-at w h e ∙ simp (lt-leb low (w .item) l)
+      ∙ ap (λ v. leb low (w .item) && are-writes (suc (w .item)) (n - 1) v) (after-is (drop p ws) w e ∙ drop-drop 2 p ws)
 
   pub more-at : (m k q : ℕ) (w : Write) → 0 < n → write-at ws p ≡ Some w → low ≤ w .item →
       m ≡ n - 1 → k ≡ suc (w .item) → q ≡ p + 2 → are-writes k m (drop q ws) ≡ are-writes low n (drop p ws)

@@ -1,5 +1,5 @@
 -- The write that begins the words, from its two words and back.
-use mathlib.Core.Path.{_≡_, refl, sym, ap, _∙_}
+use mathlib.Core.Path.{_≡_, refl, ap}
 use mathlib.Core.List.{List, [], _∷_}
 use mathlib.Core.Bool.{Bool, true, false, cond}
 use Prim.Native.Nat.{ℕ, _≤_, _<_, _^_}
@@ -29,10 +29,11 @@ first-is [] x h p q = absurd (omega arith)
 first-is (i ∷ []) x h p q = absurd (omega arith)
 first-is (i ∷ (c ∷ ws)) x h p q = write-of-some i c x p q
 
-pub after-is : (ws : List ℕ) (w : Write) → 2 ≤ length ws → first-write ws ≡ Some w → after-write ws ≡ drop 2 ws
-after-is [] w h p = absurd (omega arith)
-after-is (i ∷ []) w h p = absurd (omega arith)
-after-is (i ∷ (c ∷ ws)) w h p = ap (λ o. cond (isSome o) ws (i ∷ (c ∷ ws))) p
+-- What stands after it.
+pub after-is : (ws : List ℕ) (w : Write) → first-write ws ≡ Some w → after-write ws ≡ drop 2 ws
+after-is [] w p = absurd (let z : _≡_ {A = ℕ} 0 1 = cc in omega arith)
+after-is (i ∷ []) w p = absurd (let z : _≡_ {A = ℕ} 0 1 = cc in omega arith)
+after-is (i ∷ (c ∷ ws)) w p = ap (λ o. cond (isSome o) ws (i ∷ (c ∷ ws))) p
 
 -- What a write's two words are, from the write.
 parts : (b : Bool) (n : ℕ) (o : Option Change) (w : Write) → cond b (mapped (a-write n) o) None ≡ Some w →

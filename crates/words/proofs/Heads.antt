@@ -1,17 +1,17 @@
 -- A head and its writes: their words, and back.
 use mathlib.Core.Path.{_≡_, refl, sym, ap, _∙_}
-use mathlib.Core.List.{List, [], _∷_}
-use mathlib.Core.Bool.{Bool, true, false, _&&_}
-use Prim.Native.Nat.{ℕ, _+_, _*_, _/_, _%_, _≤_, _<_}
+use mathlib.Core.List.{List}
+use mathlib.Core.Bool.{true}
+use Prim.Native.Nat.{ℕ, _/_, _%_, _≤_, _<_}
 use native.Mathlib.Omega.{arith}
 use lib.Dec.{eqb, leb, ltb}
 use lib.ListN.{length}
 use Rattle.std.specs.declared.option.Option.{Option}
 use Rattle.std.specs.declared.option.Option.the-variants.{Some, None}
-use Rattle.std.proofs.shelf.Tests.{eq-eqb, eqb-true, ltb-true, lt-ltb, le-leb, leb-true, and-parts, and-from}
+use Rattle.std.proofs.shelf.Tests.{eq-eqb, eqb-true, lt-ltb, le-leb, leb-true, and-parts, and-from}
 use Rattle.words.specs.declared.changes.Write.{Write}
 use Rattle.words.specs.Bits.{kind-of, site-of, count-of, clear-between, head}
-use Rattle.words.specs.Writes.{all-writes, leading, rising, rising-count, are-writes, heads, writes-words, fit-from, valid-writes}
+use Rattle.words.specs.Writes.{all-writes, leading, rising, rising-count, heads, writes-words, fit-from, valid-writes}
 use Rattle.words.proofs.Codes.{writes-back, writes-read}
 
 -- a head is its kind, site and count

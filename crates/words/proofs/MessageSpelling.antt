@@ -1,19 +1,18 @@
 -- Every message has one spelling.
-use mathlib.Core.Path.{_≡_, refl, sym, ap, _∙_}
+use mathlib.Core.Path.{_≡_, refl, ap, _∙_}
 use mathlib.Core.List.{List, [], _∷_}
-use mathlib.Core.Bool.{Bool, true, false, cond, _&&_}
-use Prim.Native.Nat.{ℕ, _≤_, _<_}
+use mathlib.Core.Bool.{true}
+use Prim.Native.Nat.{ℕ, _<_}
 use native.Mathlib.Omega.{arith}
-use lib.Dec.{eqb, leb, ltb}
+use lib.Dec.{eqb, ltb}
 use lib.ListN.{length}
-use Rattle.std.specs.declared.option.Option.{Option}
 use Rattle.std.specs.declared.option.Option.the-variants.{Some, None}
-use Rattle.std.proofs.shelf.Tests.{eq-eqb, eqb-true, ltb-true, lt-ltb, and-parts, and-from, cond-true}
+use Rattle.std.proofs.shelf.Tests.{eq-eqb, eqb-true, ltb-true, and-parts, and-from, cond-true}
 use Rattle.words.specs.declared.changes.Write.{Write}
 use Rattle.words.specs.Bits.{kind-of, load-of, site-of, count-of, clear-between, word, head, is-number, in-range, is-group}
 use Rattle.words.specs.Writes.{heads, leading, writes-words, valid-writes}
 use Rattle.words.specs.Messages.{MessageValue, an-edit, a-report, message-words, valid-message, edit-fits, read-edit, report-fits, read-report, or-else, message-of, One-spelling}
-use Rattle.words.proofs.Heads.{head-is, head-kind, head-clear, head-site, head-count, Headed, heads-back, heads-read, sited, led}
+use Rattle.words.proofs.Heads.{head-is, head-kind, head-clear, head-site, head-count, heads-back, heads-read, sited, led}
 use Rattle.words.proofs.Spellings.{from-cond, three-back, same-cons, number-back, number-read, group-parts, one-spelling}
 
 edit-parts : (n h t v : ℕ) (ws : List ℕ) → is-group n ≡ true → edit-fits n h t v ws ≡ true →

@@ -1,12 +1,11 @@
 -- Every page has one spelling.
-use mathlib.Core.Path.{_≡_, refl, sym, ap, _∙_}
+use mathlib.Core.Path.{_≡_, refl, ap, _∙_}
 use mathlib.Core.List.{List, [], _∷_, map}
-use mathlib.Core.Bool.{Bool, true, false, cond, _&&_}
-use Prim.Native.Nat.{ℕ, _+_, _*_, _≤_, _<_}
+use mathlib.Core.Bool.{true}
+use Prim.Native.Nat.{ℕ, _<_}
 use native.Mathlib.Omega.{arith}
 use lib.Dec.{eqb, leb, ltb}
 use lib.ListN.{length}
-use Rattle.std.specs.declared.option.Option.{Option}
 use Rattle.std.specs.declared.option.Option.the-variants.{Some, None}
 use Rattle.std.proofs.shelf.Lists.{length-map}
 use Rattle.std.proofs.shelf.Tests.{eq-eqb, eqb-true, ltb-true, lt-ltb, le-leb, leb-true, and-parts, and-from, cond-true}
@@ -15,7 +14,7 @@ use Rattle.words.specs.Bits.{kind-of, load-of, site-of, word, head, is-number,
 use Rattle.words.specs.Writes.{heads, leading, writes-words, valid-writes}
 use Rattle.words.specs.Messages.{or-else, One-spelling}
 use Rattle.words.specs.Pages.{PageValue, an-entry, a-closing, page-words, valid-page, entry-fits, read-entry, known-fits, closing-fits, read-closing, page-of}
-use Rattle.words.proofs.Heads.{Headed, heads-back, heads-read, sited, led}
+use Rattle.words.proofs.Heads.{heads-back, heads-read, sited, led}
 use Rattle.words.proofs.FirstWord.{no-entry, second-of}
 use Rattle.words.proofs.Spellings.{three-back, same-cons, number-back, number-read, group-parts, one-spelling}
 

@@ -1,17 +1,16 @@
 -- A trial reading of a write, one word after the other.
 use mathlib.Core.Path.{_≡_, refl, sym, ap, _∙_}
-use mathlib.Core.List.{List, [], _∷_}
+use mathlib.Core.List.{List, _∷_}
 use mathlib.Core.Bool.{Bool, true, false, cond}
-use Prim.Native.Nat.{ℕ, _+_, _≤_, _<_}
+use Prim.Native.Nat.{ℕ, _+_}
 use native.Mathlib.Omega.{arith}
 use lib.Dec.{ltb, eqb}
-use lib.ListN.{length, getD, drop}
+use lib.ListN.{length, getD}
 use Rattle.std.specs.declared.option.Option.{Option}
 use Rattle.std.specs.declared.option.Option.the-variants.{Some, None}
 use Rattle.std.specs.Options.{mapped}
 use Rattle.std.proofs.shelf.Lists.{drop-more, drop-all}
 use Rattle.std.proofs.shelf.Tests.{ltb-true, ltb-false, ne-eqb, cond-true}
-use Rattle.words.specs.declared.changes.Write.{Write}
 use Rattle.words.specs.Bits.{kind-of, load-of}
 use Rattle.words.specs.Writes.{a-write, change-of, write-of, first-write}
 use Rattle.words.specs.Scans.{word-at, place-after, write-at}
@@ -30,13 +29,13 @@ missing false x p = refl
 pub no-first : (ws : List ℕ) (p : ℕ) → word-at ws p ≡ None → write-at ws p ≡ None
 no-first ws p e = ap first-write (drop-all p ws (ltb-false p (length ws) (missing (ltb p (length ws)) (getD ws p 0) e)))
 
-pub no-second : (ws : List ℕ) (p i : ℕ) → word-at ws p ≡ Some i → word-at ws (p + 1) ≡ None → write-at ws p ≡ None
+no-second : (ws : List ℕ) (p i : ℕ) → word-at ws p ≡ Some i → word-at ws (p + 1) ≡ None → write-at ws p ≡ None
 no-second ws p i e f =
     let h = ltb-true p (length ws) (found (ltb p (length ws)) (getD ws p 0) i e .0) in
     let k = ltb-false (p + 1) (length ws) (missing (ltb (p + 1) (length ws)) (getD ws (p + 1) 0) f) in
     ap first-write (drop-more ws p 0 h ∙ ap (λ l. getD ws p 0 ∷ l) (drop-all (p + 1) ws k))
 
-pub both-words : (ws : List ℕ) (p i c : ℕ) → word-at ws p ≡ Some i → word-at ws (p + 1) ≡ Some c → write-at ws p ≡ write-of i c
+both-words : (ws : List ℕ) (p i c : ℕ) → word-at ws p ≡ Some i → word-at ws (p + 1) ≡ Some c → write-at ws p ≡ write-of i c
 both-words ws p i c e f =
     let g = found (ltb p (length ws)) (getD ws p 0) i e in
     let k = found (ltb (p + 1) (length ws)) (getD ws (p + 1) 0) c f in
@@ -45,7 +44,7 @@ both-words ws p i c e f =
     ∙ ap (λ x. write-of x (getD ws (p + 1) 0)) (g .1)
     ∙ ap (λ y. write-of i y) (k .1)
 
-pub moved : (ws : List ℕ) (p i : ℕ) → word-at ws p ≡ Some i → place-after ws p ≡ p + 1
+moved : (ws : List ℕ) (p i : ℕ) → word-at ws p ≡ Some i → place-after ws p ≡ p + 1
 moved ws p i e = cond-true (ltb p (length ws)) (p + 1) p (found (ltb p (length ws)) (getD ws p 0) i e .0)
 
 no-kind : (b : Bool) (i : ℕ) (o : Option Change) → b ≡ false → cond b (mapped (a-write i) o) None ≡ None

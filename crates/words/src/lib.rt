@@ -4,9 +4,7 @@
 // `bits` and `scan` are below these: the layout of one word, and a reader that goes through words.
 pub(crate) mod bits;
 pub mod changes;
-// pub mod encode;
+pub mod encode;
 pub mod messages;
 pub mod pages;
 pub mod scan;
-
-// mod tests;

@@ -1,4 +1,4 @@
-use mathlib.Core.Path.{_≡_, ap, sym, _∙_}
+use mathlib.Core.Path.{ap, sym, _∙_}
 use Prim.Native.Nat.{_≤_}
 use native.Mathlib.Omega.{arith}
 use borrow.Author.Needs.{needs}
@@ -16,6 +16,6 @@ returns-in-Some c =
     let e = first-is ws (c .in-Some .change) h (omega arith) (sym (c .in-Some .ensures tt)) in
     record {
       write = ap (λ i. Some (a-write i (c .in-Some .change))) (c .load .ensures) ∙ sym e;
-      rest = take-rest ws 2 ∙ sym (after-is ws _ h e);
+      rest = take-rest ws 2 ∙ sym (after-is ws _ e);
       part = ap (λ n. (c .args .words .ptr .0, n)) (omega arith);
     }

@@ -1,4 +1,4 @@
-use mathlib.Core.Path.{_≡_, refl, sym, ap, _∙_}
+use mathlib.Core.Path.{refl, sym, _∙_}
 use native.Mathlib.Omega.{arith}
 use Rattle.words.proofs.Trials.{no-first, trial-second, trial-kind, trial-change, trial-write, trial-place}
 use Rattle.words.proofs.scan.Reader.read_write.Needs as need
