@@ -1,0 +1,11 @@
+pub mod LogModel
+pub mod Window
+pub mod RingModel
+pub mod CountersModel
+pub mod RowModel
+pub mod TableModel
+pub mod FlatModel
+pub mod PageWords
+pub mod PagesModel
+pub mod PackedModel
+pub mod Laws
