@@ -4,17 +4,17 @@ use crate::calls::Call;
 use words::changes::Change;
 
 #[derive(Drop)]
-pub struct Random {
+pub(crate) struct Random {
     state: u32,
 }
 
 impl Random {
-    pub fn new(seed: u32) -> Random {
+    pub(crate) fn new(seed: u32) -> Random {
         Random { state: seed }
     }
 
     // The next number, below `limit`.
-    pub fn below(&mut self, limit: u32) -> u32
+    pub(crate) fn below(&mut self, limit: u32) -> u32
         requires { ⌜ 0 < limit ⌝ }
         ensures { λ r. ⌜ r < limit ⌝ }
     {
@@ -39,7 +39,7 @@ impl Random {
     }
 
     // A call of a store whose version is `version`: most of them stage, some seal, few prune.
-    pub fn call(&mut self, items: u32, version: u32) -> Call
+    pub(crate) fn call(&mut self, items: u32, version: u32) -> Call
         requires items { ⌜ 0 < items ⌝ }
         requires version { ⌜ version < 268435456 ⌝ }
     {
