@@ -1,0 +1,9 @@
+pub mod Modes
+pub mod Edits
+pub mod Spelling
+pub mod Slots
+pub mod SiteModel
+pub mod Handles
+pub mod Certify
+pub mod Calls
+pub mod Making
