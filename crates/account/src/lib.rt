@@ -2,6 +2,8 @@
 //
 // `decisions` has the answers, `accountant` decides one message after another and keeps every commit,
 // `certify` looks for conflicts, `scenes` applies commits, and `laws` states what holds of every list.
+#![tactic(auto)]
+
 pub mod accountant;
 pub mod certify;
 pub mod decisions;

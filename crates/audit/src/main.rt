@@ -1,4 +1,6 @@
 // Decides a saved list of messages from standard input, and prints what was decided at each place and what is left.
+#![tactic(auto)]
+
 mod lines;
 mod report;
 

@@ -1,4 +1,6 @@
 // Trials of the logs: both are driven with the same long lists of calls, and every answer is compared.
+#![tactic(auto)]
+
 #[cfg(test)]
 mod calls;
 #[cfg(test)]

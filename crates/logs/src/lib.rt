@@ -1,4 +1,6 @@
 // A site's log: what it means, the interface, and two layouts of it.
+#![tactic(auto)]
+
 pub mod api;
 pub(crate) mod copies;
 pub(crate) mod counters;

@@ -1,4 +1,6 @@
 // Plays a scenario from standard input: one call a line, each printed with its answer.
+#![tactic(auto)]
+
 mod answers;
 mod calls;
 mod making;

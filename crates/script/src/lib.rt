@@ -2,6 +2,8 @@
 //!
 //! `lines` reads a whole line, `deeds` a call at a site, `parts` single arguments, `verbs` the names of the calls.
 //! `asks` has what is asked for, `faults` why a line is not understood.
+#![tactic(auto)]
+
 pub mod asks;
 pub(crate) mod deeds;
 pub mod faults;

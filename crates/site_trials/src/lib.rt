@@ -1,6 +1,8 @@
 // Trials of a site, over both stores and both logs: every refusal at its edge, and that a declined call changes nothing.
 //
 // `turns` has the form of a trial, a list of calls with what each has to answer, and takes them; `pairs` makes the sites.
+#![tactic(auto)]
+
 #[cfg(test)]
 mod changes;
 #[cfg(test)]

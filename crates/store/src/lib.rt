@@ -1,4 +1,6 @@
 // A store of versions: what it means, the interface, and two layouts of it.
+#![tactic(auto)]
+
 pub mod api;
 pub mod chains;
 pub mod journal;

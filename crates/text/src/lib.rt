@@ -1,4 +1,6 @@
 //! Texts of bytes as lines, words and numbers.
+#![tactic(auto)]
+
 pub mod names;
 pub mod numbers;
 pub mod split;

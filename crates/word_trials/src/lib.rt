@@ -1,4 +1,6 @@
 // Trials of the word format: known encodings, damaged words, short buffers, and the reader of writes.
+#![tactic(auto)]
+
 #[cfg(test)]
 mod damaged_messages;
 #[cfg(test)]

@@ -59,6 +59,11 @@ module _ (ws : List ℕ) (low n p : ℕ) where
       m ≡ n - 1 → k ≡ suc w.item → q ≡ p + 2 → are_writes k m (drop q ws) ≡ are_writes low n (drop p ws)
   more_at m k q w h e l f g r = simp (f, g, r) (sym (test_at w h e ∙ simp (le-leb low w.item l)))
 
+  pub stop_at : (w : Write) → 0 < n → write_at ws p ≡ Some w → w.item < low → false ≡ are_writes low n (drop p ws)
+  stop_at w h e l =
+      let f : leb low w.item ≡ false = grind (arith, nat_tests) in
+      sym (test_at w h e ∙ ap (λ b. b && are_writes (suc w.item) (n - 1) (drop (p + 2) ws)) f)
+
   pub end_at : n ≡ 0 → are_writes low n (drop p ws) ≡ leb (length ws) p
   end_at e = simp e (count_end low (drop p ws) ∙ ap (λ k. eqb k 0) (length-drop p ws) ∙ passed (length ws) p)
     where

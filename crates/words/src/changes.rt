@@ -34,7 +34,7 @@ pub(crate) fn read_change(word: u32) -> Option<Change>
 pub fn read_write(words: &[u32]) -> (Option<Write>, &[u32])
     ensures write { result.0 ≡ first_write words.now }
     ensures rest { result.1.now ≡ after_write words.now }
-    ensures part { result.1.ptr ≡ (words.entry.ptr.0, words.entry.ptr.1 + (if is_some result.0 then 8 else 0)) }
+    ensures part { result.1.ref_ptr ≡ (words.entry.ref_ptr.0, words.entry.ref_ptr.1 + (if is_some result.0 then 8 else 0)) }
 {
     let [item, change, rest @ ..] = words else {
         return (None, words);

@@ -1,3 +1,5 @@
+#![tactic(auto)]
+
 // The word format of Scene Share: messages and pages as 32-bit words, read and written.
 //
 // `changes` has the writes, `messages` and `pages` read what words say, `encode` writes them.

@@ -12,5 +12,5 @@ returns-in-Some c =
     record {
       write = ap (λ i. Some (a_write i c.in-Some.change)) c.load.ensures ∙ sym e;
       rest = take_rest ws 2 ∙ sym (after_is ws _ e);
-      part = ap (λ n. (c.args.words.ptr.0, n)) (omega arith);
+      part = ap (λ n. (c.args.words.ref_ptr.0, n)) (omega arith);
     }

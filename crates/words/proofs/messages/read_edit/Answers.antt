@@ -24,5 +24,5 @@ returns c =
     (sym c.is_edit.ensures ∙ c.if-not-is_edit.false) in
     record {
       message = simp (c.site.ensures, c.load.ensures, c.load-2.ensures) e;
-      borrowed = (ap (λ n. (c.args.words.ptr.0, n)) (omega arith), take_rest ws 3);
+      borrowed = (ap (λ n. (c.args.words.ref_ptr.0, n)) (omega arith), take_rest ws 3);
     }

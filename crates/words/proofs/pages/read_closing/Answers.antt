@@ -23,5 +23,5 @@ returns c =
     (sym c.is_closing.ensures ∙ c.if-not-is_closing.false) in
     record {
       page = simp (c.load.ensures, c.load-2.ensures) e;
-      borrowed = (ap (λ n. (c.args.words.ptr.0, n)) (omega arith), take_rest ws 3);
+      borrowed = (ap (λ n. (c.args.words.ref_ptr.0, n)) (omega arith), take_rest ws 3);
     }

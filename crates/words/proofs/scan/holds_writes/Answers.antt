@@ -3,7 +3,7 @@ use Rattle.words.specs.declared.changes.Write.{Write}
 use Rattle.words.specs.Writes.{are_writes}
 use Rattle.words.specs.Scans.{write_at}
 use Rattle.words.proofs.Fronts.{item_bound}
-use Rattle.words.proofs.Counts.{more_at, end_at}
+use Rattle.words.proofs.Counts.{more_at, stop_at, end_at}
 use Rattle.words.proofs.scan.holds_writes.Goals as goal
 
 pub loop-init : goal.loop-init
@@ -22,6 +22,12 @@ pub overflow_add-low : goal.overflow_add-low
 overflow_add-low c =
     let b = item_bound (drop c.loop.reader.place c.args.words.now) c.in-Some.write (found_at c.args.words.now c.loop.reader.words.now c.loop.reader.place c.loop.invariant.0 c.read_write.ensures.write c.in-Some.is) in
     search rules
+
+pub returns-then-write-low : goal.returns-then-write-low
+returns-then-write-low c =
+    stop_at c.args.words.now c.loop.low (c.args.count - c.loop.counter) c.loop.reader.place c.in-Some.write
+    (omega arith) (found_at c.args.words.now c.loop.reader.words.now c.loop.reader.place c.loop.invariant.0 c.read_write.ensures.write c.in-Some.is) (omega arith)
+    ∙ c.loop.invariant.1
 
 pub loop-preserved : goal.loop-preserved
 loop-preserved c = (

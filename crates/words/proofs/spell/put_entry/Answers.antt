@@ -1,5 +1,5 @@
-use Rattle.std.proofs.Common.{◌≡◌, true, refl, ap, ◌∙◌}
-use Rattle.words.specs.Encoded.{entry_value, put_answer, put_after}
+use Rattle.std.proofs.Common.{true, refl, ap, ◌∙◌}
+use Rattle.words.specs.Encoded.{put_answer, put_after}
 use Rattle.words.proofs.Spellings.{same_cons}
 use Rattle.words.proofs.spell.put_entry.Goals as goal
 
