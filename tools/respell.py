@@ -11,7 +11,6 @@ With --list nothing is written: the renamings are printed, and the names that wo
 
 import os
 import re
-import subprocess
 import sys
 
 DECLARED = re.compile(r"^\s*(?:(?:abbrev|unfoldable|pub|private|data|record)\s+)*([^\s:(){}.,;]+)(?:\s+\([^)]*\)|\s+\{[^}]*\})*\s+:\s+(.*)$")
@@ -153,7 +152,7 @@ def main(argv):
 def rename_log():
     if not os.path.isdir("crates/log"):
         return
-    subprocess.run(["git", "mv", "crates/log", "crates/logs"], check=True)
+    os.rename("crates/log", "crates/logs")
     for path in list(texts(".antt", "specs", "proofs")) + list(texts(".rt", "src")) + list(texts(".edit", "must-fail")) + ["crates.txt"]:
         text = read(path)
         new = re.sub(r"\bRattle\.log\.", "Rattle.logs.", text)
