@@ -79,7 +79,7 @@ led (b ∷ bs) ws = (b ∷ bs) ∷ ws
 
 -- The part is memory of the whole, from its byte n on.
 abbrev pub PartAt : Bor (List ℕ) → ℕ → Bor (List ℕ) → Type 0
-PartAt whole n part = part.ptr ≡ (whole.ptr.0, whole.ptr.1 + n)
+PartAt whole n part = part.ref_ptr ≡ (whole.ref_ptr.0, whole.ref_ptr.1 + n)
 
 -- The part is the last bytes of the whole, in its memory.
 abbrev pub LastPart : Bor (List ℕ) → Bor (List ℕ) → Type 0

@@ -17,7 +17,7 @@ returns-in-len1-up c =
       lines = λ h. lines_step text h ∙ cc;
       shorter = λ h. rw rest (line_shorter text h);
       line_part = split.front_part;
-      rest_part = part_within c.args.text.ptr c.split_leading.result.1.ptr _ _ 1 _ split.rest_part (ap (λ n. (c.split_leading.result.1.ptr.0, n)) (add_comm 1 c.split_leading.result.1.ptr.1)) (simp (length-take, length-drop) (omega (arith, split.whole)));
+      rest_part = part_within c.args.text.ref_ptr c.split_leading.result.1.ref_ptr _ _ 1 _ split.rest_part (ap (λ n. (c.split_leading.result.1.ref_ptr.0, n)) (add_comm 1 c.split_leading.result.1.ref_ptr.1)) (simp (length-take, length-drop) (omega (arith, split.whole)));
     }
 
 pub returns-in-empty : goal.returns-in-empty
@@ -33,5 +33,5 @@ returns-in-empty c =
       lines = λ h. lines_step text h ∙ cc;
       shorter = λ h. omega arith;
       line_part = split.front_part;
-      rest_part = split.rest_part ∙ ap (λ n. (c.args.text.ptr.0, n)) (omega (arith, split.whole));
+      rest_part = split.rest_part ∙ ap (λ n. (c.args.text.ref_ptr.0, n)) (omega (arith, split.whole));
     }

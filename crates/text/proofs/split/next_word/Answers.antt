@@ -17,6 +17,6 @@ returns c =
       rest = rest;
       words = words_step text.now ∙ cc;
       shorter = omega (arith, skipped.whole, split.whole);
-      word_part = part_within text.ptr from.ptr _ _ 0 _ skipped.rest_part split.front_part (omega (arith, ap length skipped.front));
-      rest_part = part_within text.ptr from.ptr _ _ _ _ skipped.rest_part split.rest_part (omega (arith, skipped.whole, split.whole));
+      word_part = part_within text.ref_ptr from.ref_ptr _ _ 0 _ skipped.rest_part split.front_part (omega (arith, ap length skipped.front));
+      rest_part = part_within text.ref_ptr from.ref_ptr _ _ _ _ skipped.rest_part split.rest_part (omega (arith, skipped.whole, split.whole));
     }

@@ -9,5 +9,5 @@ returns c =
       rest = search (rules, take_rest);
       whole = simp (length-take, length-drop) (omega (arith, c.count_leading-end.ensures.within));
       front_part = search rules;
-      rest_part = ap (λ n. (c.args.text.ptr.0, n)) (simp length-take (omega (arith, c.count_leading-end.ensures.within)));
+      rest_part = ap (λ n. (c.args.text.ref_ptr.0, n)) (simp length-take (omega (arith, c.count_leading-end.ensures.within)));
     }
