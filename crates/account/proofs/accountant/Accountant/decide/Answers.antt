@@ -10,16 +10,16 @@ note-requires c =
     let report = a_report c.in-Report.site c.in-Report.version in
     let e = found_as c.read_message.result _ c.in-Some.message report c.read_message.ensures.message c.in-Some.is (ap message_value c.in-Report.is) in
     record {
-      room = omega (arith, c.args.self.now.limit, c.if-self-eq-LAST-PLACE.false);
+      room = omega (arith, c.args.self.now.limit, c.if-self-eq-LAST_PLACE.false);
       own = report_own c.args.self.now.sites c.in-Report.site c.in-Report.version ((c.read_message.ensures.exact report).0 (c.read_message.ensures.message ∙ sym e)).1;
     }
 
-pub returns-in-default : goal.returns-in-default
-returns-in-default c =
+pub returns-in_default : goal.returns-in_default
+returns-in_default c =
     let a = c.args.self.now in
-    let room : a.places < 268435455 = omega (arith, a.limit, c.if-self-eq-LAST-PLACE.false) in
+    let room : a.places < 268435455 = omega (arith, a.limit, c.if-self-eq-LAST_PLACE.false) in
     let after = some_books a.sites (a.places + 1) (books a).account in
-    let e = entered_as (books a) after _ (message_of a.sites c.args.words.now) (Ok Void) c.in-default.ensures.message
+    let e = entered_as (books a) after _ (message_of a.sites c.args.words.now) (Ok Void) c.in_default.ensures.message
     (void_entered a.sites a.places (books a).account room) in
     record { entered = e; lawful = lawful_from (books a) after c.args.words.now (Ok Void) e }
 
@@ -31,11 +31,11 @@ returns-in-Report c =
     c.note.ensures in
     record { entered = e; lawful = lawful_from (books a) (books c.note.new.self) c.args.words.now (Ok Noted) e }
 
-pub returns-in_ok-writes : goal.returns-in_ok-writes
-returns-in_ok-writes c =
+pub returns-in_ok-writes-in-Edit : goal.returns-in_ok-writes-in-Edit
+returns-in_ok-writes-in-Edit c =
     let a = c.args.self.now in
     let edit = ap message_value c.in-Edit.is
-    ∙ ap (an_edit c.in-Edit.site c.in-Edit.ticket c.in-Edit.snapshot) (sym c.in_ok-writes.ensures) in
+    ∙ ap (an_edit c.in-Edit.site c.in-Edit.ticket c.in-Edit.snapshot) (sym c.in_ok-writes-in-Edit.ensures) in
     let e = entered_as (books a) (books c.enter.new.self) _ (message_of a.sites c.args.words.now) c.enter.result
     (found_as c.read_message.result _ c.in-Some.message _ c.read_message.ensures.message c.in-Some.is edit)
     c.enter.ensures in

@@ -5,7 +5,7 @@ use Rattle.account.specs.Books.{books}
 use Rattle.account.specs.Kept.{committed}
 use Rattle.account.proofs.Entries.{kept_entered, passed_entered}
 use Rattle.account.proofs.accountant.Accountant.enter.Goals as goal
-use Rattle.account.proofs.accountant.Accountant.enter.Goals.{in-Commit+in_ok-push, in-default}
+use Rattle.account.proofs.accountant.Accountant.enter.Goals.{in-Commit+in_ok-push, in_default}
 
 pub returns : goal.returns
 returns c =
@@ -18,8 +18,8 @@ returns c =
           (ap (λ x. map committed (vec_items x.1.1.1.0)) w.self-is
           ∙ ap (map committed) w.in_ok-push.ensures.items
           ∙ map_push committed (vec_items a.commits) _)
-      | in-default w ↦
+      | in_default w ↦
           passed_entered a.sites a.places (books a).account c.args.home c.args.ticket c.args.snapshot (vec_items c.args.writes)
-          c.judge-decision.result c.requires e _ w.in-default.not-Commit
+          c.judge-decision.result c.requires e _ w.in_default.not-Commit
           (ap (λ x. map committed (vec_items x.1.1.1.0)) w.self-is)
     ]

@@ -3,8 +3,8 @@ use Rattle.std.proofs.lemmas.List.{take_rest}
 use Rattle.account.proofs.KnownNumbers.{least_from, least_none, least_more, least_all, least_parts}
 use Rattle.account.proofs.accountant.questions.find_least.Goals as goal
 
-pub returns-in-default : goal.returns-in-default
-returns-in-default c = let h : length c.args.numbers.now ≡ 0 = search rules in least_none c.args.numbers.now h
+pub returns-in_default : goal.returns-in_default
+returns-in_default c = let h : length c.args.numbers.now ≡ 0 = search rules in least_none c.args.numbers.now h
 
 pub loop-number-init : goal.loop-number-init
 loop-number-init c =
