@@ -1,14 +1,14 @@
 -- Commits and conflicts: what stands between an edit's snapshot and its decision.
-use Rattle.std.proofs.Common.{◌≡◌, ℕ, zero, suc, ◌+◌, ◌-◌, ◌<◌, ◌≤◌, Bool, true, false, cond, ltb, List, [], ◌∷◌, ◌++◌, length, drop, Some, None, Option, sym, refl, ap, ◌∙◌, subst, arith}
+use Rattle.std.proofs.Common.{◌≡◌, ℕ, zero, suc, ◌+◌, ◌-◌, ◌<◌, ◌≤◌, Bool, true, false, cond, ltb, List, [], ◌∷◌, ◌++◌, length, drop, Some, None, Option, sym, refl, ap, ◌∙◌, arith}
 use Rattle.std.specs.List.{slice_get}
 use Rattle.std.proofs.lemmas.List.{append_assoc}
 use Rattle.std.proofs.lemmas.Bool.{ltb-false}
 use Rattle.words.specs.declared.changes.Write.{Write}
-use Rattle.words.specs.Messages.{MessageValue, an_edit, message_of}
+use Rattle.words.specs.Messages.{an_edit, message_of}
 use Rattle.account.specs.declared.decisions.Decision.{Decision}
 use Rattle.account.specs.declared.decisions.Decision.TheVariants.{Conflict, Commit}
-use Rattle.account.specs.Account.{Account, Committed, a_commit, meets, lowest_clash, ruling, decide, added, horizon, last_version, decisions, commits_of, commit_of}
-use Rattle.account.specs.Laws.{ClearBetween, Decided-edit, CommitsClear, ConflictsLowest}
+use Rattle.account.specs.Account.{Account, Committed, a_commit, meets, lowest_clash, ruling, decide, added, horizon, last_version, commits_of, commit_of}
+use Rattle.account.specs.Laws.{Decided-edit, CommitsClear, ConflictsLowest}
 use Rattle.account.proofs.Places.{nth_within, nth_front, nth_at, nth_drop, same_some}
 use Rattle.account.proofs.Steps.{before, decided_there, commits_there}
 

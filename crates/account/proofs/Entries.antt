@@ -12,7 +12,7 @@ use Rattle.account.specs.declared.decisions.Decision.TheVariants.{Void, Noted, A
 use Rattle.account.specs.declared.decisions.Fault.{Fault}
 use Rattle.account.specs.declared.decisions.Fault.TheVariants.{GroupSize, TooManyPlaces, NoMemory}
 use Rattle.account.specs.Account.{Account, Committed, an_account, a_commit, judged, decide, added, next, opening, account_after, decisions}
-use Rattle.account.specs.Books.{Books, some_books, books_after, Entered, Lawful}
+use Rattle.account.specs.Books.{Books, some_books, Entered, Lawful}
 use Rattle.account.proofs.Steps.{after_append, decisions_append}
 
 pub lawful_from : (b b' : Books) (ws : List ℕ) (r : Result Decision Fault) → Entered b b' (message_of b.sites ws) r → Lawful b b' ws r

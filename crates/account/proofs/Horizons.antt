@@ -1,5 +1,5 @@
 -- The horizon: it never falls, and never passes the last version.
-use Rattle.std.proofs.Common.{◌≡◌, ℕ, zero, suc, ◌+◌, ◌<◌, ◌≤◌, min, max, List, [], ◌∷◌, ◌++◌, length, replicate, Some, None, Option, sym, refl, ap, ◌∙◌, arith, length-append}
+use Rattle.std.proofs.Common.{ℕ, zero, suc, ◌≤◌, min, List, [], ◌∷◌, replicate, Some, None, Option, arith, length-append}
 use Rattle.words.specs.Messages.{MessageValue, an_edit, a_report, message_of}
 use Rattle.account.specs.Account.{Account, least, raise, horizon, last_version, decide, added, heard, next, opening, after_from, account_after}
 use Rattle.account.specs.Laws.{HorizonRises}

@@ -1,12 +1,11 @@
 -- The account, one message after another.
-use Rattle.std.proofs.Common.{◌≡◌, ℕ, zero, suc, ◌+◌, ◌<◌, ◌≤◌, List, [], ◌∷◌, ◌++◌, length, take, drop, Some, Option, sym, refl, ap, ◌∙◌, arith}
+use Rattle.std.proofs.Common.{◌≡◌, ℕ, suc, List, [], ◌∷◌, ◌++◌, length, take, drop, Some, sym, refl, ap, ◌∙◌, arith}
 use Rattle.std.specs.List.{slice_get}
 use Rattle.std.proofs.lemmas.List.{append_assoc, append-nil, length-take-le, take_at}
 use Rattle.words.specs.Messages.{message_of}
-use Rattle.account.specs.declared.decisions.Decision.{Decision}
 use Rattle.account.specs.Account.{Account, Committed, decide, added, next, opening, after_from, decisions_from, account_after, decisions, commits_of}
 use Rattle.account.specs.Laws.{FrontStands}
-use Rattle.account.proofs.Places.{nth_within, nth_at, nth_parts, same_some}
+use Rattle.account.proofs.Places.{nth_within, nth_at, nth_parts}
 
 module _ (n : ℕ) where
   pub after_append : (a : Account) (xs ys : List (List ℕ)) → after_from n a (xs ++ ys) ≡ after_from n (after_from n a xs) ys

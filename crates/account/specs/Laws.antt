@@ -1,5 +1,5 @@
 -- What holds of the account of every list.
-use Rattle.std.specs.Prelude.{◌≡◌, ℕ, ◌<◌, ◌≤◌, true, false, List, ◌∷◌, ◌++◌, length, take, Some}
+use Rattle.std.specs.Prelude.{◌≡◌, ℕ, ◌<◌, ◌≤◌, true, false, List, ◌++◌, length, take, Some}
 use Rattle.std.specs.List.{slice_get}
 use Rattle.words.specs.declared.changes.Write.{Write}
 use Rattle.words.specs.Messages.{an_edit, message_of}

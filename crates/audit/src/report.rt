@@ -1,6 +1,7 @@
 // The run over a list: each line is parsed, decided and printed; the scene that is left comes last.
 use crate::lines::{Reason, is_blank, parse_group, parse_message};
 use account::accountant::Accountant;
+use anyhow::anyhow;
 use std::fmt::Display;
 use text::split::{content, next_line};
 
@@ -11,7 +12,7 @@ fn fault<D: Display + Drop>(
     reason: D,
 ) -> anyhow::Result<anyhow::Error> {
     eprintln!(rt; "line {line}: {reason}")?;
-    Ok("the list is not understood".into())
+    Ok(anyhow!("the list is not understood"))
 }
 
 // Decides the message of a line, and prints the decision with its place.

@@ -1,4 +1,4 @@
-use Rattle.std.proofs.Common.{◌≡◌, ◌+◌, ◌<◌, Ok, sym, ap, ◌∙◌, arith}
+use Rattle.std.proofs.Common.{◌+◌, ◌<◌, Ok, sym, ap, ◌∙◌, arith}
 use Rattle.words.specs.Messages.{an_edit, a_report, message_of, message_value}
 use Rattle.account.specs.declared.decisions.Decision.TheVariants.{Void, Noted}
 use Rattle.account.specs.Books.{books, some_books}

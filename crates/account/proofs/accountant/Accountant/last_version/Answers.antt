@@ -1,4 +1,4 @@
-use Rattle.std.proofs.Common.{vec_items, sym, ◌∙◌, arith}
+use Rattle.std.proofs.Common.{vec_items, sym, ◌∙◌}
 use lib.ListN.{length-map}
 use Rattle.account.specs.Kept.{committed}
 use Rattle.account.proofs.accountant.Accountant.last_version.Goals as goal
