@@ -38,29 +38,34 @@ chain_sound s = record {
 }
 
 -- the same, with what the row owes, as the ghost fields of the struct ask for it
-pub both_owed : {xs : List Record} {os ns hs : List ℕ} {v n t : ℕ} → ChainSound xs os ns hs n → RowSound (laid xs os) (length os) v n t →
-    (length os ≤ length xs) × ((length os ≤ length ns) × (Below (length os) os × (Apart os × (SlotNexts (laid xs os) os ns n × (SlotTops (laid xs os) os hs n
-    × ((length os ≤ length (laid xs os)) × ((length os ≤ 4096) × ((n + t ≤ length os) × ((v ≤ 268435455)
-    × ((every (at_most v) (take n (laid xs os)) ≡ true) × ((every (of_version (v + 1)) (take t (drop n (laid xs os))) ≡ true) × Unit {0})))))))))))
-both_owed c s = (
-  c.memory,
-  (
-    c.links,
-    (
-      c.below,
-      (
-        c.apart,
-        (
-          c.linked,
-          (
-            c.topped,
-            (s.room, (s.small, (s.counts, (s.high, (s.past, (s.coming, tt)))))),
-          ),
-        ),
-      ),
-    ),
-  ),
-)
+pub both_owed : {xs : List Record} {os ns hs : List ℕ} {v n t : ℕ} → ChainSound xs os ns hs n → RowSound (laid xs os) (length os) v n t → record {
+  memory : length os ≤ length xs;
+  links : length os ≤ length ns;
+  below : Below (length os) os;
+  apart : Apart os;
+  linked : SlotNexts (laid xs os) os ns n;
+  topped : SlotTops (laid xs os) os hs n;
+  room : length os ≤ length (laid xs os);
+  small : length os ≤ 4096;
+  counts : n + t ≤ length os;
+  high : v ≤ 268435455;
+  past : every (at_most v) (take n (laid xs os)) ≡ true;
+  coming : every (of_version (v + 1)) (take t (drop n (laid xs os))) ≡ true;
+}
+both_owed c s = record {
+  memory = c.memory;
+  links = c.links;
+  below = c.below;
+  apart = c.apart;
+  linked = c.linked;
+  topped = c.topped;
+  room = s.room;
+  small = s.small;
+  counts = s.counts;
+  high = s.high;
+  past = s.past;
+  coming = s.coming;
+}
 
 -- what holds of the slices ys and ps holds of the records and slots that they show
 module _ (xs ys : List Record) (os ps : List ℕ) (n : ℕ) (records : ys ≡ xs) (slots : ps ≡ os) where

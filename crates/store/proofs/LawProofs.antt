@@ -3,7 +3,7 @@ use Rattle.std.proofs.Common.{◌≡◌, ℕ, ◌+◌, ◌<◌, ◌≤◌, Bool,
 use Rattle.std.proofs.lemmas.Bool.{and_parts, and_from, and_left, and_right, or_parts, eqb-true, leb-true, le-leb, lt-leb, lt-ltb, cases_Bool}
 use Rattle.words.specs.declared.changes.Write.{Write}
 use Rattle.store.specs.declared.records.Record.{Record}
-use Rattle.store.specs.Laws.{Part, none, kept, left_out, PruneLaw, SealLaw, Seals, ReadLaw, Reads, rewritten, writes_item}
+use Rattle.store.specs.Laws.{Part, none, kept, left_out, PruneLaw, SealLaw, Seals, ReadLaw, rewritten, writes_item}
 use Rattle.store.specs.StoreModel.{StoreModel, Bounded, or_else, latest, matches, some, every, at_most, value_of, value_in, dated, with_staged, has_space, next_version, pruned, sealed_up, read_at}
 
 or_else_none : (o : Option Record) → or_else o None ≡ o

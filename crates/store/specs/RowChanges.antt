@@ -20,9 +20,22 @@ pub record RowSound (rs : List Record) (c v n t : ℕ) : Type 0 where
   pub coming : every (of_version (v + 1)) (take t (drop n rs)) ≡ true
 
 -- the same, as the ghost fields of a struct ask for it
-pub owed : {rs : List Record} {c v n t : ℕ} → RowSound rs c v n t →
-    (c ≤ length rs) × ((c ≤ 4096) × ((n + t ≤ c) × ((v ≤ 268435455) × ((every (at_most v) (take n rs) ≡ true) × ((every (of_version (v + 1)) (take t (drop n rs)) ≡ true) × Unit {0})))))
-owed s = (s.room, (s.small, (s.counts, (s.high, (s.past, (s.coming, tt))))))
+pub owed : {rs : List Record} {c v n t : ℕ} → RowSound rs c v n t → record {
+  room : c ≤ length rs;
+  small : c ≤ 4096;
+  counts : n + t ≤ c;
+  high : v ≤ 268435455;
+  past : every (at_most v) (take n rs) ≡ true;
+  coming : every (of_version (v + 1)) (take t (drop n rs)) ≡ true;
+}
+owed s = record {
+  room = s.room;
+  small = s.small;
+  counts = s.counts;
+  high = s.high;
+  past = s.past;
+  coming = s.coming;
+}
 
 -- `&v[0..n]` as the checker reads it, where xs is what v holds
 pub front_part : (xs ys : List Record) (n : ℕ) → ys ≡ xs → take (n - 0) ys ≡ take n xs

@@ -5,12 +5,12 @@ use Rattle.store.specs.StoreModel.{fresh}
 use Rattle.store.proofs.ChainsChanges.{both_owed, fresh_sound, fresh_row}
 use Rattle.store.proofs.chains.Chains.new.Goals as goal
 
-pub invariant-of-result : goal.invariant-of-result
-invariant-of-result c =
+pub invariant_of-result : goal.invariant_of-result
+invariant_of-result c =
     both_owed {hs = replicate 64 0}
     (fresh_sound c.args.records.items c.in-Ok.slots.items c.in-Ok-vec.next.items _ c.min-capacity.result c.in-Ok.ensures
     (omega (arith, c.args.records.ok.0))
-    (omega (arith, c.in-Ok-vec.ensures.made.1, c.in-Ok-vec.next.ok.0))
+    (omega (arith, c.in-Ok-vec.ensures.len, c.in-Ok-vec.next.ok.0))
     (λ b l. get_or-replicate 64 b 0 0 l))
     (fresh_row c.args.records.items c.in-Ok.slots.items c.min-capacity.result c.in-Ok.ensures (omega arith))
 

@@ -26,8 +26,8 @@ link_slots-requires c =
       topped = λ b l. get_or-replicate 64 b 0 0 l;
     }
 
-pub invariant-of-self : goal.invariant-of-self
-invariant-of-self c =
+pub invariant_of-self : goal.invariant_of-self
+invariant_of-self c =
     let s = c.args.self.now in
     let ps = c.close_up-self.new.items.items in
     let done = c.close_up-self.ensures in

@@ -17,15 +17,15 @@ returns-then-used-len c =
       after = row_unstaged _ _ _ _ _ s (a_write c.args.item c.args.change) full;
     }
 
-pub index-mut-requires : goal.index-mut-requires
-index-mut-requires c =
+pub index_mut-requires : goal.index_mut-requires
+index_mut-requires c =
     let s = c.args.self.now in
     let inside : c.args.self.now.sealed + c.args.self.now.staged < length c.args.self.now.slots.items =
     omega (arith, c.args.self.now.slots.ok.0) in
     omega (arith, slot_inside s _ c.index.result.now inside c.index.ensures, s.records.ok.0)
 
-pub invariant-of-self : goal.invariant-of-self
-invariant-of-self c =
+pub invariant_of-self : goal.invariant_of-self
+invariant_of-self c =
     let s = c.args.self.now in
     let r = a_record (s.version + 1) c.args.item c.args.change in
     let inside : c.args.self.now.sealed + c.args.self.now.staged < length c.args.self.now.slots.items =

@@ -11,8 +11,8 @@ link_up-requires c = record {
   clear = λ b l. get_or-replicate 64 b 0 0 l;
 }
 
-pub invariant-of-self : goal.invariant-of-self
-invariant-of-self c =
+pub invariant_of-self : goal.invariant_of-self
+invariant_of-self c =
     let done = c.prune_row-self.ensures in
     let long : length c.prune_row-self.new.records.items ≡ length c.args.self.now.records.items =
     omega (arith, c.prune_row-self.new.records.ok.0, c.args.self.now.records.ok.0) in

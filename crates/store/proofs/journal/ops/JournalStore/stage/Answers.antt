@@ -12,8 +12,8 @@ returns-then-used-self c =
       after = row_unstaged _ _ _ _ _ s (a_write c.args.item c.args.change) (omega arith);
     }
 
-pub invariant-of-self : goal.invariant-of-self
-invariant-of-self c = owed (staged_sound _ _ _ _ _ (journal_sound c.args.self.now) _ refl (omega arith))
+pub invariant_of-self : goal.invariant_of-self
+invariant_of-self c = owed (staged_sound _ _ _ _ _ (journal_sound c.args.self.now) _ refl (omega arith))
 
 pub returns : goal.returns
 returns c =
