@@ -3,7 +3,7 @@ use Rattle.std.specs.Prelude.{◌≡◌, ℕ, List, [], ◌∷◌, pos}
 use Rattle.words.specs.Writes.{a_write}
 use Rattle.words.specs.declared.changes.Change.TheVariants.{Set, Remove}
 use Rattle.words.specs.declared.changes.Write.{Write}
-use Rattle.std.specs.List.{AllByRecursion as All}
+use Rattle.std.specs.List.{AllByRecursion}
 use Rattle.store.specs.declared.records.Record.{Record}
 use Rattle.store.specs.StoreModel.{StoreModel, a_record, fresh, staged_on, sealed_up, pruned_to}
 
@@ -29,4 +29,4 @@ known_prunes =
     ∷ [])
 
 abbrev pub KnownPrunes : Type 0
-KnownPrunes = All (λ p. (pruned_to p.to three_versions).sealed ≡ p.leaves) known_prunes
+KnownPrunes = AllByRecursion (λ p. (pruned_to p.to three_versions).sealed ≡ p.leaves) known_prunes
