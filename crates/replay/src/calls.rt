@@ -25,8 +25,8 @@ pub enum Answer {
 
 /// Makes one call.
 pub fn apply<S: Store>(store: &mut S, call: Call) -> Answer
-    ensures answer { result ≡ answer_of (model store.old) call }
-    ensures after { model store.new ≡ after_call (model store.old) call }
+    ensures answer { result ≡ answer_of (S.model store.old) call }
+    ensures after { S.model store.new ≡ after_call (S.model store.old) call }
 {
     match call {
         Call::Read { item, at } => Answer::Value(store.read(item, at)),
@@ -57,10 +57,10 @@ pub struct Counts {
 
 /// Asks all four questions.
 pub fn count<S: Store>(store: &S) -> Counts
-    ensures version { result.version ≡ (model store.now).version }
-    ensures capacity { result.capacity ≡ (model store.now).capacity }
-    ensures sealed { result.sealed ≡ length (model store.now).sealed }
-    ensures staged { result.staged ≡ length (model store.now).staged }
+    ensures version { result.version ≡ (S.model store.now).version }
+    ensures capacity { result.capacity ≡ (S.model store.now).capacity }
+    ensures sealed { result.sealed ≡ length (S.model store.now).sealed }
+    ensures staged { result.staged ≡ length (S.model store.now).staged }
 {
     Counts {
         version: store.version(),

@@ -1,4 +1,4 @@
-use Rattle.std.proofs.Common.{true, false, sym, ◌∙◌, arith}
+use Rattle.std.proofs.Common.{sym, ◌∙◌, arith}
 use Rattle.std.proofs.lemmas.Bool.{false≢true}
 use Rattle.replay.proofs.Puts.{putting_none, putting_more, putting_full, putting_dropped, putting_all, putting_sealed, putting_reads}
 use Rattle.replay.proofs.versions.put_version.Goals as goal
