@@ -4,27 +4,20 @@ use Rattle.logs.specs.LogModel.{a_mark, all_within}
 use Rattle.logs.proofs.Numbers.{closed_is}
 use Rattle.logs.proofs.counters.Counters.close.Goals as goal
 
-pub invariant-of-self : goal.invariant-of-self
-invariant-of-self c =
+pub invariant_of-self : goal.invariant_of-self
+invariant_of-self c =
     let k = c.args.self.now in
     let eight : length c.overwrite.new.memory ≡ 8 =
     ap length c.overwrite.ensures ∙ simp (length-append, length-drop) (omega arith) in
-    let front = ap (take k.sites) c.overwrite.ensures ∙ take_at c.args.known.now _ _ c.if-known-self.true in (
-      c.if-place-le-LIMIT.true,
-      (
-        k.counted,
-        (
-          eight,
-          (
-            k.few,
-            (
-              k.two,
-              (ap all_within front ∙ sym c.are_within.ensures ∙ c.if-are_within.true, tt),
-            ),
-          ),
-        ),
-      ),
-    )
+    let front = ap (take k.sites) c.overwrite.ensures ∙ take_at c.args.known.now _ _ c.if-known-self.true in
+    record {
+      placed = c.if-place-le-LIMIT.true;
+      counted = k.counted;
+      eight = eight;
+      few = k.few;
+      two = k.two;
+      within = ap all_within front ∙ sym c.are_within.ensures ∙ c.if-are_within.true;
+    }
 
 pub returns-then-are_within : goal.returns-then-are_within
 returns-then-are_within c =

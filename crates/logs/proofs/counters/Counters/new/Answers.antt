@@ -5,25 +5,18 @@ use Rattle.logs.specs.LogModel.{a_mark, all_within}
 use Rattle.logs.proofs.Numbers.{within_zeros}
 use Rattle.logs.proofs.counters.Counters.new.Goals as goal
 
-pub invariant-of-result : goal.invariant-of-result
-invariant-of-result c =
+pub invariant_of-result : goal.invariant_of-result
+invariant_of-result c =
     let p = and_parts (leb 2 c.args.sites) (leb c.args.sites 8) c.requires in
-    let few = leb-true c.args.sites 8 p.1 in (
-      omega arith,
-      (
-        omega arith,
-        (
-          refl,
-          (
-            few,
-            (
-              leb-true 2 c.args.sites p.0,
-              (ap all_within (take-replicate c.args.sites 8 0 few) ∙ within_zeros c.args.sites, tt),
-            ),
-          ),
-        ),
-      ),
-    )
+    let few = leb-true c.args.sites 8 p.1 in
+    record {
+      placed = omega arith;
+      counted = omega arith;
+      eight = refl;
+      few = few;
+      two = leb-true 2 c.args.sites p.0;
+      within = ap all_within (take-replicate c.args.sites 8 0 few) ∙ within_zeros c.args.sites;
+    }
 
 pub returns : goal.returns
 returns c =

@@ -6,28 +6,19 @@ use Rattle.logs.specs.LogModel.{a_mark, all_within}
 use Rattle.logs.proofs.Numbers.{within_set, noted_is}
 use Rattle.logs.proofs.counters.Counters.note.Goals as goal
 
-pub invariant-of-self : goal.invariant-of-self
-invariant-of-self c =
-    let k = c.args.self.now in (
-      omega arith,
-      (
-        k.counted,
-        (
-          length-set k.known c.args.site c.args.number ∙ k.eight,
-          (
-            k.few,
-            (
-              k.two,
-              (
-                ap all_within (take-set-lt k.sites k.known c.args.site c.args.number c.if-site-self.true)
-                    ∙ within_set (take k.sites k.known) c.args.site c.args.number (le-leb _ _ c.if-number-le-LIMIT.true) k.within,
-                tt,
-              ),
-            ),
-          ),
-        ),
-      ),
-    )
+pub invariant_of-self : goal.invariant_of-self
+invariant_of-self c =
+    let k = c.args.self.now in
+    record {
+      placed = omega arith;
+      counted = k.counted;
+      eight = length-set k.known c.args.site c.args.number ∙ k.eight;
+      few = k.few;
+      two = k.two;
+      within =
+        ap all_within (take-set-lt k.sites k.known c.args.site c.args.number c.if-site-self.true)
+        ∙ within_set (take k.sites k.known) c.args.site c.args.number (le-leb _ _ c.if-number-le-LIMIT.true) k.within;
+    }
 
 pub returns-then-self-lt-LIMIT : goal.returns-then-self-lt-LIMIT
 returns-then-self-lt-LIMIT c =

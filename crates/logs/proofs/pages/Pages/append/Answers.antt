@@ -15,47 +15,38 @@ push_page-requires c =
     let can = sym c.can_append.ensures ∙ c.if-not-can_append.false in
     record {
       room = room_left p e can;
-      version = omega (arith, version_left p e can, c.last_version.ensures);
+      version = omega (arith, version_left p e can, c.last-version.ensures);
       loggable = is_loggable p e can;
     }
 
-pub invariant-of-self : goal.invariant-of-self
-invariant-of-self c =
+pub invariant_of-self : goal.invariant_of-self
+invariant_of-self c =
     let p = c.args.self.now in
     let e = an_entry c.args.home c.args.ticket c.args.writes.now in
     let can = sym c.can_append.ensures ∙ c.if-not-can_append.false in
-    let v = ap (λ n. n + 1) c.last_version.ensures in
+    let v = ap (λ n. n + 1) c.last-version.ensures in
     let s = ap (λ n. p.removed + n) c.len.ensures.value in
     let words = c.push_page.new.words in
     let starts = c.push.new.self in
     let ws = c.push_page.ensures.items in
     let ss = c.push.ensures.items in
-    let size = c.push_page.ensures.size in (
-      omega (arith, size, p.small),
-      (
-        omega (arith, size, c.push.ensures.size, p.indexed),
-        (
-          grown_high p e can _ _ v s words starts ws ss size,
-          (
-            p.near,
-            (
-              grown_laid p e can _ _ v s words starts ws ss size,
-              (
-                grown_begun p e can _ _ v s words starts ws ss size,
-                (grown_sound p e can _ _ v s words starts ws ss size, tt),
-              ),
-            ),
-          ),
-        ),
-      ),
-    )
+    let size = c.push_page.ensures.size in
+    record {
+      small = omega (arith, size, p.small);
+      indexed = omega (arith, size, c.push.ensures.size, p.indexed);
+      high = grown_high p e can _ _ v s words starts ws ss size;
+      near = p.near;
+      laid = grown_laid p e can _ _ v s words starts ws ss size;
+      begun = grown_begun p e can _ _ v s words starts ws ss size;
+      sound = grown_sound p e can _ _ v s words starts ws ss size;
+    }
 
 pub returns : goal.returns
 returns c =
     let p = c.args.self.now in
     let e = an_entry c.args.home c.args.ticket c.args.writes.now in
     let can = sym c.can_append.ensures ∙ c.if-not-can_append.false in
-    let v = ap (λ n. n + 1) c.last_version.ensures in
+    let v = ap (λ n. n + 1) c.last-version.ensures in
     let s = ap (λ n. p.removed + n) c.len.ensures.value in
     record {
       answer = sym can;

@@ -28,8 +28,8 @@ overflow_add-self c =
       p.words.room,
     )
 
-pub invariant-of-self : goal.invariant-of-self
-invariant-of-self c =
+pub invariant_of-self : goal.invariant_of-self
+invariant_of-self c =
     let p = c.args.self.now in
     let v = c.args.version in
     let bound = c.min-bound.ensures ∙ ap (min v) c.last.ensures in
@@ -39,25 +39,16 @@ invariant-of-self c =
     let starts = c.remove_front-then-bound-self.new.self in
     let ws = c.remove_front.ensures.items in
     let ss = c.remove_front-then-bound-self.ensures.items in
-    let size = c.remove_front.ensures.size in (
-      omega (arith, size, p.small),
-      (
-        omega (arith, size, c.remove_front-then-bound-self.ensures.size, p.indexed),
-        (
-          kept_high p v _ _ _ bound above refl gone words starts ws ss size,
-          (
-            kept_near p v _ _ _ bound above refl gone words starts ws ss size,
-            (
-              kept_laid p v _ _ _ bound above refl gone words starts ws ss size,
-              (
-                kept_begun p v _ _ _ bound above refl gone words starts ws ss size,
-                (kept_sound p v _ _ _ bound above refl gone words starts ws ss size, tt),
-              ),
-            ),
-          ),
-        ),
-      ),
-    )
+    let size = c.remove_front.ensures.size in
+    record {
+      small = omega (arith, size, p.small);
+      indexed = omega (arith, size, c.remove_front-then-bound-self.ensures.size, p.indexed);
+      high = kept_high p v _ _ _ bound above refl gone words starts ws ss size;
+      near = kept_near p v _ _ _ bound above refl gone words starts ws ss size;
+      laid = kept_laid p v _ _ _ bound above refl gone words starts ws ss size;
+      begun = kept_begun p v _ _ _ bound above refl gone words starts ws ss size;
+      sound = kept_sound p v _ _ _ bound above refl gone words starts ws ss size;
+    }
 
 pub returns-then-bound-self : goal.returns-then-bound-self
 returns-then-bound-self c =

@@ -5,14 +5,14 @@ use Rattle.logs.specs.RingModel.{ring_items}
 use Rattle.logs.specs.Rings.{ring_count, ring_below, ring_pushed}
 use Rattle.logs.proofs.ring.Ring.push.Goals as goal
 
-pub index-mut-requires : goal.index-mut-requires
-index-mut-requires g c =
+pub index_mut-requires : goal.index_mut-requires
+index_mut-requires g c =
     let r = c.args.self.now in
     let e = c.place_after-end.ensures ∙ ap (λ n. place_after n r.start r.count) c.len.ensures in
     ring_below r r.count _ e (omega (arith, ring_count r))
 
-pub invariant-of-self : goal.invariant-of-self
-invariant-of-self g c = let r = c.args.self.now in (r.begins, (omega (arith, ring_count r), tt))
+pub invariant_of-self : goal.invariant_of-self
+invariant_of-self g c = let r = c.args.self.now in record { begins = r.begins; room = omega (arith, ring_count r) }
 
 pub returns : goal.returns
 returns g c =

@@ -10,11 +10,11 @@ place_after-self-requires g c =
 pub overflow_sub-self : goal.overflow_sub-self
 overflow_sub-self g c = omega (arith, ring_count c.args.self.now)
 
-pub invariant-of-self : goal.invariant-of-self
-invariant-of-self g c =
+pub invariant_of-self : goal.invariant_of-self
+invariant_of-self g c =
     let r = c.args.self.now in
     let e = c.place_after-self.ensures ∙ ap (λ n. place_after n r.start c.args.count) c.len.ensures in
-    (ring_within r c.args.count _ e (omega (arith, ring_count r, r.room)), (omega (arith, r.room), tt))
+    record { begins = ring_within r c.args.count _ e (omega (arith, ring_count r, r.room)); room = omega (arith, r.room) }
 
 pub returns : goal.returns
 returns g c =

@@ -8,17 +8,16 @@ push-requires c =
     table_open c.args.self.now (an_entry c.args.home c.args.ticket c.args.writes.now)
     (sym c.can_append.ensures ∙ c.if-not-can_append.false)
 
-pub invariant-of-self : goal.invariant-of-self
-invariant-of-self c =
+pub invariant_of-self : goal.invariant_of-self
+invariant_of-self c =
     let t = c.args.self.now in
     let e = an_entry c.args.home c.args.ticket c.args.writes.now in
-    let can = sym c.can_append.ensures ∙ c.if-not-can_append.false in (
-      pushed_high t e can _ c.of.ensures c.push.new.self c.push.ensures.items c.push.ensures.size,
-      (
-        omega (arith, c.push.ensures.size, t.small),
-        (pushed_sound t e can _ c.of.ensures c.push.new.self c.push.ensures.items c.push.ensures.size, tt),
-      ),
-    )
+    let can = sym c.can_append.ensures ∙ c.if-not-can_append.false in
+    record {
+      high = pushed_high t e can _ c.of.ensures c.push.new.self c.push.ensures.items c.push.ensures.size;
+      small = omega (arith, c.push.ensures.size, t.small);
+      sound = pushed_sound t e can _ c.of.ensures c.push.new.self c.push.ensures.items c.push.ensures.size;
+    }
 
 pub returns : goal.returns
 returns c =

@@ -5,19 +5,18 @@ use Rattle.logs.proofs.table.Table.trim.Goals as goal
 pub remove_front-requires : goal.remove_front-requires
 remove_front-requires c = omega (arith, table_last c.args.self.now, c.last.ensures)
 
-pub invariant-of-self : goal.invariant-of-self
-invariant-of-self c =
+pub invariant_of-self : goal.invariant_of-self
+invariant_of-self c =
     let t = c.args.self.now in
     let bound = c.min-bound.ensures ∙ ap (min c.args.version) c.last.ensures in
     let above = c.if-bound-self.true in
     let items = c.remove_front.ensures.items in
-    let size = c.remove_front.ensures.size in (
-      left_high t c.args.version _ bound above c.remove_front.new.self items size,
-      (
-        omega (arith, size, t.small),
-        (left_sound t c.args.version _ bound above c.remove_front.new.self items size, tt),
-      ),
-    )
+    let size = c.remove_front.ensures.size in
+    record {
+      high = left_high t c.args.version _ bound above c.remove_front.new.self items size;
+      small = omega (arith, size, t.small);
+      sound = left_sound t c.args.version _ bound above c.remove_front.new.self items size;
+    }
 
 pub returns-then-bound-self : goal.returns-then-bound-self
 returns-then-bound-self c =
