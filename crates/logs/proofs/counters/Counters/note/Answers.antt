@@ -16,8 +16,8 @@ invariant_of-self c =
       few = k.few;
       two = k.two;
       within =
-        ap all_within (take-set-lt k.sites k.known c.args.site c.args.number c.if-site-self.true)
-        ∙ within_set (take k.sites k.known) c.args.site c.args.number (le-leb _ _ c.if-number-le-LIMIT.true) k.within;
+          ap all_within (take-set-lt k.sites k.known c.args.site c.args.number c.if-site-self.true)
+          ∙ within_set (take k.sites k.known) c.args.site c.args.number (le-leb _ _ c.if-number-le-LIMIT.true) k.within;
     }
 
 pub returns-then-self-lt-LIMIT : goal.returns-then-self-lt-LIMIT
