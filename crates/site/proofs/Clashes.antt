@@ -1,12 +1,12 @@
 -- A walk over the entries above a version, and over the writes of one.
-use Rattle.std.proofs.Common.{◌≡◌, ℕ, zero, suc, ◌+◌, ◌-◌, ◌<◌, ◌≤◌, max, Bool, true, false, cond, ◌||◌, ltb, List, [], ◌∷◌, map, length, get_or, drop, Some, None, Option, sym, refl, ap, ◌∙◌, add-one, arith}
+use Rattle.std.proofs.Common.{◌≡◌, ℕ, zero, suc, ◌+◌, ◌-◌, ◌<◌, ◌≤◌, max, Bool, false, cond, ◌||◌, List, [], ◌∷◌, map, length, get_or, drop, Some, None, Option, sym, refl, ap, ◌∙◌, add-one, arith}
 use lib.ListN.{length-map}
 use Rattle.std.specs.List.{slice_get}
 use Rattle.std.proofs.lemmas.List.{at_drop_more, at_drop_all, get_or-map}
 use Rattle.std.proofs.lemmas.Option.{slice_get-get_or}
 use Rattle.std.proofs.lemmas.Bool.{lt-ltb}
 use Rattle.words.specs.declared.changes.Write.{Write}
-use Rattle.account.specs.Account.{Committed, touches, meets, lowest_clash}
+use Rattle.account.specs.Account.{touches, meets, lowest_clash}
 use Rattle.logs.specs.LogModel.{LogModel, Entry, last_version, entry_at, an_entry, write_of}
 use Rattle.site.specs.Calls.{writes_in}
 use Rattle.site.specs.Certify.{as_commit, clash_above}

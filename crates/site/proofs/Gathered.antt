@@ -1,5 +1,5 @@
 -- Writes read from words into a table, one after another.
-use Rattle.std.proofs.Common.{◌≡◌, ℕ, ◌+◌, ◌<◌, ◌≤◌, cond, List, [], ◌∷◌, ◌++◌, length, take, set, is_some, Some, None, Option, sym, refl, ap, ◌∙◌, arith, length-take}
+use Rattle.std.proofs.Common.{◌≡◌, ℕ, ◌+◌, ◌<◌, ◌≤◌, cond, List, [], ◌∷◌, ◌++◌, length, take, set, is_some, Some, None, sym, refl, ap, ◌∙◌, arith, length-take}
 use Rattle.std.proofs.lemmas.List.{append_assoc, append-nil, take_more_set, take_at, take_all}
 use Rattle.words.specs.declared.changes.Write.{Write}
 use Rattle.words.specs.Writes.{first_write, after_write, leading, and_then}

@@ -9,7 +9,7 @@ use Rattle.words.specs.Writes.{all_fit}
 use Rattle.words.specs.Pages.{PageValue, an_entry, a_closing, has_words, page_words}
 use Rattle.words.specs.Encoded.{wrote, refused, put_answer, put_after}
 use Rattle.logs.specs.declared.heads.EntryHead.{EntryHead}
-use Rattle.logs.specs.LogModel.{Entry, LogModel, Bounded, all_within, all_fit as log-fit, loggable, all_loggable, last_version, entry_at, head_of}
+use Rattle.logs.specs.LogModel.{Entry, LogModel, Bounded, all_within, all_fit as log-fit, all_loggable, last_version, entry_at, head_of}
 use Rattle.site.specs.Calls.{writes_in}
 use Rattle.site.specs.CatchUp.{page_after, page_at}
 use Rattle.site.specs.Spelling.{spelt}

@@ -1,5 +1,5 @@
 -- The slots of a table, by what they hold.
-use Rattle.std.proofs.Common.{◌≡◌, ℕ, suc, ◌+◌, ◌<◌, ◌≤◌, min, Bool, true, false, cond, ◌&&◌, List, [], ◌∷◌, map, length, get_or, drop, Some, None, Option, sym, refl, ap, ◌∙◌, add-one, arith}
+use Rattle.std.proofs.Common.{◌≡◌, ℕ, ◌+◌, ◌<◌, ◌≤◌, min, true, false, List, [], ◌∷◌, map, length, get_or, drop, Some, None, sym, refl, ap, ◌∙◌, add-one, arith}
 use Rattle.std.proofs.lemmas.List.{at_drop_more, at_drop_all, get_or-map, length-map}
 use Rattle.std.proofs.lemmas.Bool.{cond-false, cond-true, ne_eqb, eq-eqb}
 use Rattle.std.specs.List.{slice_get}
@@ -8,8 +8,8 @@ use Rattle.site.specs.declared.edits.Edit.{Edit}
 use Rattle.account.specs.declared.decisions.Decision.{Decision}
 use Rattle.site.specs.declared.slots.Slot.{Slot}
 use Rattle.site.specs.declared.slots.Slot.TheVariants.{Empty, Open, Posted, Decided}
-use Rattle.site.specs.Edits.{EditModel, edit_model}
-use Rattle.site.specs.Slots.{SlotModel, empty, opened, posted, decided, slot_model, empty_from, is_empty, all_empty, held_open, open_edit, held_posted, has_posted, held_decision, least_needed}
+use Rattle.site.specs.Edits.{edit_model}
+use Rattle.site.specs.Slots.{SlotModel, empty, opened, posted, decided, slot_model, empty_from, all_empty, held_open, open_edit, held_posted, has_posted, held_decision, least_needed}
 
 skip : (s : Slot) (i : ℕ) (ss : List SlotModel) → (s ≡ Empty → ⊥) → empty_from i (slot_model s ∷ ss) ≡ empty_from (i + 1) ss
 skip Empty i ss h = absurd (h refl)

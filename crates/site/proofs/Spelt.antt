@@ -1,13 +1,12 @@
 -- What a site sends is valid in its group, so that only a short buffer is refused.
-use Rattle.std.proofs.Common.{◌≡◌, ℕ, ◌*◌, ◌<◌, ◌≤◌, Bool, true, false, cond, eqb, ltb, leb, List, [], ◌∷◌, ◌++◌, length, take, drop, is_some, Some, None, Ok, Err, Option, Result, sym, refl, ap, ◌∙◌, arith, length-take}
+use Rattle.std.proofs.Common.{◌≡◌, ℕ, ◌*◌, ◌<◌, ◌≤◌, Bool, true, false, cond, eqb, leb, List, [], ◌∷◌, ◌++◌, length, take, drop, is_some, Some, None, Option, sym, refl, ap, ◌∙◌, arith, length-take}
 use Rattle.std.proofs.lemmas.List.{take_at}
 use Rattle.std.proofs.lemmas.Bool.{le-leb, lt-ltb, and_from, eqb-false}
-use Rattle.words.specs.declared.encode.Refusal.{Refusal}
 use Rattle.words.specs.declared.changes.Write.{Write}
 use Rattle.words.specs.Bits.{in_range, is_group}
-use Rattle.words.specs.Writes.{fit_from, valid_writes, writes_words}
+use Rattle.words.specs.Writes.{fit_from, writes_words}
 use Rattle.words.specs.Messages.{an_edit, a_report, message_words, valid_message}
-use Rattle.words.specs.Encoded.{Reply, wrote, refused, reply, put_answer, put_after}
+use Rattle.words.specs.Encoded.{wrote, refused, put_answer, put_after}
 use Rattle.site.specs.declared.edits.Edit.{Edit}
 use Rattle.site.specs.declared.home.Home.{Home}
 use Rattle.site.specs.Edits.{edit_model}

@@ -1,18 +1,14 @@
 -- What each call answers and leaves: the table of refusals, and what is carried out where no line of it fits.
-use Rattle.std.specs.Prelude.{◌≡◌, ℕ, suc, ◌+◌, ◌-◌, min, max, Bool, true, false, cond, not, ◌&&◌, ◌||◌, List, [], ◌∷◌, ◌++◌, map, length, take, drop, replicate, ℤ, is_some, Some, None, Ok, Err, Option, Result, ◌==◌, nat_le, nat_lt}
-use Rattle.std.specs.Option.{option_map}
+use Rattle.std.specs.Prelude.{◌≡◌, ℕ, ◌+◌, min, Bool, true, false, cond, not, ◌&&◌, ◌||◌, List, [], ◌∷◌, ◌++◌, map, length, take, drop, replicate, ℤ, is_some, Some, None, Ok, Err, Option, Result, ◌==◌, nat_le, nat_lt}
 use Rattle.std.specs.List.{slice_get}
 use Rattle.words.specs.declared.changes.Change.{Change}
 use Rattle.words.specs.declared.changes.Change.TheVariants.{Set, Remove}
 use Rattle.words.specs.declared.changes.Write.{Write}
-use Rattle.words.specs.Bits.{every}
 use Rattle.words.specs.Writes.{write_fits}
-use Rattle.words.specs.Messages.{MessageValue, an_edit, a_report, message_words, message_of}
+use Rattle.words.specs.Messages.{MessageValue, a_report, message_words, message_of}
 use Rattle.words.specs.Pages.{PageValue, page_words, page_of}
 use Rattle.account.specs.declared.decisions.Decision.{Decision}
-use Rattle.account.specs.declared.decisions.Decision.TheVariants.{Void, Noted, Ahead, TooOld, Conflict, Commit}
-use Rattle.account.specs.Account.{ruling}
-use Rattle.store.specs.StoreModel.{StoreModel, read_at, space, staged_on, sealed_up, dropped, pruned_to}
+use Rattle.store.specs.StoreModel.{read_at, space, staged_on, sealed_up, dropped, pruned_to}
 use Rattle.logs.specs.LogModel.{LogModel, Entry, last_version, entry_at, write_of, ticketed, trimmed}
 use Rattle.site.specs.declared.handles.Handle.{Handle}
 use Rattle.site.specs.declared.modes.Mode.{Mode}
@@ -30,7 +26,7 @@ use Rattle.site.specs.declared.site.posts.Answered.TheVariants as answered-kind
 use Rattle.site.specs.Handles.{a_handle, draft_handle, posted_handle}
 use Rattle.site.specs.Edits.{EditModel, an_edit_of, own_change, has_room, rewritten}
 use Rattle.site.specs.Spelling.{own_words}
-use Rattle.site.specs.Slots.{SlotModel, empty, opened, posted, decided, lowest_empty, all_empty, open_edit, has_posted, held_decision, settled}
+use Rattle.site.specs.Slots.{SlotModel, empty, opened, posted, lowest_empty, all_empty, open_edit, has_posted, held_decision, settled}
 use Rattle.site.specs.Certify.{certified, log_after, declines}
 use Rattle.site.specs.CatchUp.{page_at, follows, has_room_for, log_taken, mode_taken, fails}
 use Rattle.site.specs.SiteModel.{SiteModel, with_store, with_log, with_mode, with_slots, with_slot, with_change, a_site, keep, horizon}

@@ -1,5 +1,5 @@
 -- Certification over a log: the entries above an edit's snapshot.
-use Rattle.std.specs.Prelude.{ℕ, ◌-◌, min, max, Bool, true, false, cond, not, ◌&&◌, List, map, drop, Some, None, Option, nat_lt}
+use Rattle.std.specs.Prelude.{ℕ, ◌-◌, min, max, Bool, true, false, not, ◌&&◌, List, map, drop, Some, None, Option, nat_lt}
 use Rattle.words.specs.declared.changes.Write.{Write}
 use Rattle.words.specs.Messages.{MessageValue, an_edit, a_report}
 use Rattle.std.specs.List.{slice_get}

@@ -1,5 +1,5 @@
 -- Making a site: over a store and a log that nothing has happened to.
-use Rattle.std.specs.Prelude.{ℕ, Bool, cond, ◌&&◌, List, [], length, replicate, None, Ok, Err, Option, Result, ◌==◌, nat_lt}
+use Rattle.std.specs.Prelude.{ℕ, Bool, cond, ◌&&◌, length, replicate, None, Ok, Err, Result, ◌==◌, nat_lt}
 use Rattle.words.specs.Bits.{is_group, every}
 use Rattle.store.specs.StoreModel.{StoreModel}
 use Rattle.logs.specs.LogModel.{LogModel, last_version}

@@ -1,5 +1,5 @@
 -- The numbers of the refusals, and what mode and event decide together.
-use Rattle.std.specs.Prelude.{ℕ, Bool, true, false, cond, Ok, Err, Result}
+use Rattle.std.specs.Prelude.{ℕ, Bool, cond, Ok, Err, Result}
 use Rattle.site.specs.declared.modes.Mode.{Mode}
 use Rattle.site.specs.declared.modes.Mode.TheVariants.{Whole, Partial, Down}
 use Rattle.site.specs.declared.modes.Event.{Event}

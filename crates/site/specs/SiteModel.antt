@@ -1,13 +1,10 @@
 -- What a site holds.
-use Rattle.std.specs.Prelude.{◌≡◌, ℕ, ◌+◌, min, Bool, true, false, cond, ◌&&◌, List, [], ◌∷◌, length, replicate, Some, None, Ok, Err, Option, Result, slice_set}
-use Rattle.words.specs.Bits.{is_group, every}
-use Rattle.store.specs.StoreModel.{StoreModel, space}
-use Rattle.logs.specs.LogModel.{LogModel, last_version, least}
+use Rattle.std.specs.Prelude.{ℕ, List, Option, slice_set}
+use Rattle.store.specs.StoreModel.{StoreModel}
+use Rattle.logs.specs.LogModel.{LogModel, least}
 use Rattle.site.specs.declared.modes.Mode.{Mode}
-use Rattle.site.specs.declared.modes.Mode.TheVariants.{Whole}
-use Rattle.site.specs.declared.home.Home.{Home}
 use Rattle.site.specs.declared.site.Site.{Site}
-use Rattle.site.specs.Slots.{SlotModel, empty, slots_model, least_needed}
+use Rattle.site.specs.Slots.{SlotModel, slots_model, least_needed}
 
 -- A site: its number, the group's size, its store and log, its mode, its slots, and how many writes of the next version
 -- are staged where a change is under way.

@@ -1,4 +1,4 @@
-use Rattle.std.proofs.Common.{sym, ap, ◌∙◌, arith}
+use Rattle.std.proofs.Common.{sym, ◌∙◌, arith}
 use Rattle.logs.specs.LogModel.{entry_at}
 use Rattle.site.proofs.Clashes.{meets_more, meets_done}
 use Rattle.site.proofs.LogFacts.{write_index}
@@ -22,4 +22,4 @@ loop-write-preserved g c = (
 )
 
 pub returns : goal.returns
-returns g c = sym (meets_done (entry_at (g.L.Log.model c.args.log.now) c.args.version) c.args.writes.now c.loop-write.number (sym c.in-default.ensures)) ∙ c.loop-write.invariant.1
+returns g c = sym (meets_done (entry_at (g.L.Log.model c.args.log.now) c.args.version) c.args.writes.now c.loop-write.number (sym c.in_default.ensures)) ∙ c.loop-write.invariant.1

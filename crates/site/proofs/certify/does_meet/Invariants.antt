@@ -1,4 +1,4 @@
-use Rattle.std.proofs.Common.{◌≡◌, ◌-◌, ◌≤◌, length, drop}
+use Rattle.std.proofs.Common.{◌≡◌, ◌-◌, ◌≤◌, drop}
 use Rattle.account.specs.Account.{meets}
 use Rattle.logs.specs.LogModel.{entry_at}
 use Rattle.site.specs.Calls.{writes_in}

@@ -1,5 +1,5 @@
-use Rattle.std.proofs.Common.{sym, ap, ◌∙◌, arith}
-use Rattle.site.proofs.Clashes.{clash_more, clash_done, clash_start}
+use Rattle.std.proofs.Common.{sym, ◌∙◌, arith}
+use Rattle.site.proofs.Clashes.{clash_more, clash_done}
 use Rattle.site.proofs.certify.find_clash.Goals as goal
 
 pub returns-then-does_meet : goal.returns-then-does_meet

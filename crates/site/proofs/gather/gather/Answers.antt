@@ -3,13 +3,13 @@ use Rattle.words.specs.Writes.{leading}
 use Rattle.site.proofs.Gathered.{gather_more, gather_stop, gather_full}
 use Rattle.site.proofs.gather.gather.Goals as goal
 
-pub returns-in-default : goal.returns-in-default
-returns-in-default c =
+pub returns-in_default : goal.returns-in_default
+returns-in_default c =
     record {
       few = omega arith;
       table = c.loop-count.invariant.0;
       writes = gather_stop c.loop-count.writes (leading c.args.words.now) c.loop-count.invariant.0 c.loop-count.count c.loop-count.rest.now (omega arith)
-          (sym c.read_write-found.ensures.write ∙ c.in-default.is) c.loop-count.invariant.1;
+          (sym c.read_write-found.ensures.write ∙ c.in_default.is) c.loop-count.invariant.1;
     }
 
 pub loop-count-preserved : goal.loop-count-preserved

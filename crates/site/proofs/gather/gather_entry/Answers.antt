@@ -5,13 +5,13 @@ use Rattle.site.proofs.Filled.{fill_more, fill_end, fill_full, write_nth}
 use Rattle.site.proofs.LogFacts.{few_in}
 use Rattle.site.proofs.gather.gather_entry.Goals as goal
 
-pub returns-in-default : goal.returns-in-default
-returns-in-default g c =
+pub returns-in_default : goal.returns-in_default
+returns-in_default g c =
     let o = entry_at (g.L.Log.model c.args.log.now) c.args.version in
     record {
       few = omega arith;
       table = c.loop-count.invariant.0;
-      writes = fill_end c.loop-count.writes (writes_in o) c.loop-count.count c.loop-count.invariant.1 (sym (c.in-default.ensures ∙ write_nth o c.loop-count.count));
+      writes = fill_end c.loop-count.writes (writes_in o) c.loop-count.count c.loop-count.invariant.1 (sym (c.in_default.ensures ∙ write_nth o c.loop-count.count));
     }
 
 pub loop-count-preserved : goal.loop-count-preserved

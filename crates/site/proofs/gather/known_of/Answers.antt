@@ -2,12 +2,12 @@ use Rattle.std.proofs.Common.{◌≡◌, take, sym, ap, ◌∙◌, arith, length
 use Rattle.site.proofs.Filled.{fill_more, fill_end, fill_full}
 use Rattle.site.proofs.gather.known_of.Goals as goal
 
-pub returns-in-default : goal.returns-in-default
-returns-in-default g c =
+pub returns-in_default : goal.returns-in_default
+returns-in_default g c =
     record {
       few = omega arith;
       table = c.loop-count.invariant.0;
-      numbers = fill_end c.loop-count.numbers (g.L.Log.model c.args.log.now).known c.loop-count.count c.loop-count.invariant.1 (sym c.in-default.ensures);
+      numbers = fill_end c.loop-count.numbers (g.L.Log.model c.args.log.now).known c.loop-count.count c.loop-count.invariant.1 (sym c.in_default.ensures);
     }
 
 pub loop-count-preserved : goal.loop-count-preserved

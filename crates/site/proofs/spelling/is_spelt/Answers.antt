@@ -1,4 +1,4 @@
-use Rattle.std.proofs.Common.{◌≡◌, ◌-◌, take, replicate, sym, ap, ◌∙◌, arith}
+use Rattle.std.proofs.Common.{◌-◌, take, replicate, sym, ap, ◌∙◌, arith}
 use Rattle.std.specs.Str.{bytes_eq}
 use Rattle.std.proofs.lemmas.Slice.Eq.{slice_eq-Decides, bytes_eq-Decides}
 use Rattle.std.proofs.lemmas.Bool.Decides.{same_from_decides, Decides-eqb}
@@ -7,10 +7,10 @@ use Rattle.site.specs.Spelling.{own_words}
 use Rattle.site.proofs.Spelt.{own_short, not_refused}
 use Rattle.site.proofs.spelling.is_spelt.Goals as goal
 
-pub returns-in-default : goal.returns-in-default
-returns-in-default c =
+pub returns-in_default : goal.returns-in_default
+returns-in_default c =
     absurd (not_refused (own_words c.args.home.number (edit_model c.args.edit.now)) (replicate 35 0) _ (own_short c.args.home.number c.args.edit.now)
-    (ap (λ r. (r, c.spell_edit.new.out)) (sym c.in-default.is) ∙ c.spell_edit.ensures.put))
+    (ap (λ r. (r, c.spell_edit.new.out)) (sym c.in_default.is) ∙ c.spell_edit.ensures.put))
 
 pub returns : goal.returns
 returns c =

@@ -1,4 +1,4 @@
-use Rattle.std.proofs.Common.{◌≡◌, sym, ap, ◌∙◌}
+use Rattle.std.proofs.Common.{sym, ap, ◌∙◌}
 use Rattle.words.specs.Messages.{an_edit, message_words, valid_message}
 use Rattle.site.specs.Edits.{edit_model}
 use Rattle.site.specs.Spelling.{spelt, own_words}

@@ -1,5 +1,5 @@
-use Rattle.std.proofs.Common.{◌≡◌, ℕ, ◌-◌, take, sym, ap, ◌∙◌, arith}
-use Rattle.words.specs.Pages.{PageValue, a_closing}
+use Rattle.std.proofs.Common.{◌-◌, take, ap, ◌∙◌, arith}
+use Rattle.words.specs.Pages.{a_closing}
 use Rattle.logs.specs.LogModel.{last_version}
 use Rattle.site.proofs.PageFacts.{closing_held, page_ok, page_err}
 use Rattle.site.proofs.spelling.spell_last.Goals as goal

@@ -1,5 +1,5 @@
-use Rattle.std.proofs.Common.{◌≡◌, ◌-◌, take, ap, ◌∙◌, arith}
-use Rattle.words.specs.Pages.{PageValue, an_entry}
+use Rattle.std.proofs.Common.{◌-◌, take, ap, ◌∙◌, arith}
+use Rattle.words.specs.Pages.{an_entry}
 use Rattle.logs.specs.LogModel.{entry_at}
 use Rattle.site.specs.Calls.{writes_in}
 use Rattle.site.proofs.PageFacts.{entry_held, page_ok, page_err}

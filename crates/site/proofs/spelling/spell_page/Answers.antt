@@ -1,4 +1,4 @@
-use Rattle.std.proofs.Common.{◌≡◌, sym, ap, ◌∙◌, arith}
+use Rattle.std.proofs.Common.{sym, ap, ◌∙◌}
 use Rattle.words.specs.Pages.{page_words}
 use Rattle.site.specs.CatchUp.{page_at}
 use Rattle.site.specs.Spelling.{spelt}

@@ -1,4 +1,3 @@
-use Rattle.std.proofs.Common.{◌≡◌}
 use Rattle.words.specs.Messages.{a_report, message_words, valid_message}
 use Rattle.site.proofs.Spelt.{valid_report, spelt_ok, spelt_err, front_spelt}
 use Rattle.site.proofs.spelling.spell_report.Goals as goal

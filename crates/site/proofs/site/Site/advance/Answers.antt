@@ -1,4 +1,4 @@
-use Rattle.std.proofs.Common.{sym, ◌∙◌, arith}
+use Rattle.std.proofs.Common.{sym, arith}
 use Rattle.site.proofs.LogFacts.{write_index}
 use Rattle.site.proofs.site.Site.advance.Goals as goal
 

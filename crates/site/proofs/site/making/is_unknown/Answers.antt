@@ -1,4 +1,4 @@
-use Rattle.std.proofs.Common.{◌≡◌, sym, ap, ◌∙◌, arith}
+use Rattle.std.proofs.Common.{sym, ◌∙◌, arith}
 use Rattle.std.proofs.lemmas.Bool.{eq-eqb, ne_eqb}
 use Rattle.site.specs.Making.{is_zero}
 use Rattle.site.proofs.Unknown.{every_more, every_end, number_within}
@@ -20,4 +20,4 @@ loop-number-preserved g c = (
 )
 
 pub returns : goal.returns
-returns g c = sym (every_end is_zero (g.L.Log.model c.args.log.now).known c.loop-number.site (sym c.in-default.ensures)) ∙ c.loop-number.invariant.1
+returns g c = sym (every_end is_zero (g.L.Log.model c.args.log.now).known c.loop-number.site (sym c.in_default.ensures)) ∙ c.loop-number.invariant.1

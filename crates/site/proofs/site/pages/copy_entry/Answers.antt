@@ -1,11 +1,10 @@
-use Rattle.std.proofs.Common.{◌≡◌, ◌+◌, ◌-◌, true, take, sym, ap, ◌∙◌, arith}
+use Rattle.std.proofs.Common.{◌≡◌, ◌+◌, ◌-◌, take, sym, ap, ◌∙◌, arith}
 use Rattle.std.proofs.lemmas.List.{take_all}
 use Rattle.std.proofs.lemmas.Bool.{eq-eqb, ne_eqb}
 use Rattle.words.specs.Writes.{leading}
 use Rattle.words.specs.Pages.{an_entry}
-use Rattle.logs.specs.LogModel.{an_entry as entry_of, last_version, can_copy, copied}
+use Rattle.logs.specs.LogModel.{an_entry as entry_of, can_copy, copied}
 use Rattle.site.specs.Modes.{given, refused}
-use Rattle.site.specs.CatchUp.{follows}
 use Rattle.site.proofs.PagesTaken.{not_following, without_room, following, not_copied}
 use Rattle.site.proofs.site.pages.copy_entry.Goals as goal
 

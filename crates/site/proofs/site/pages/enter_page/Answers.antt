@@ -1,4 +1,4 @@
-use Rattle.std.proofs.Common.{◌≡◌, leb, map, length, sym, ap, ◌∙◌, arith}
+use Rattle.std.proofs.Common.{leb, map, length, sym, ap, ◌∙◌, arith}
 use Rattle.std.proofs.lemmas.List.{length-map}
 use Rattle.std.proofs.lemmas.Bool.{and_parts, leb-true}
 use Rattle.words.specs.Bits.{load_of}

@@ -1,4 +1,4 @@
-use Rattle.std.proofs.Common.{◌≡◌, ◌-◌, take, Some, sym, ap, ◌∙◌, arith}
+use Rattle.std.proofs.Common.{◌≡◌, take, Some, sym, ap, ◌∙◌, arith}
 use Rattle.words.specs.Writes.{leading}
 use Rattle.words.specs.Messages.{an_edit, message_value}
 use Rattle.site.specs.Calls.{entered}

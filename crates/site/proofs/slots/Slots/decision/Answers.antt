@@ -8,5 +8,5 @@ returns-then-slot-ge8 c = decided_outside c.args.self.now.table c.args.slot (ome
 pub returns-in-Decided : goal.returns-in-Decided
 returns-in-Decided c = decided_at c.args.self.now.table c.args.slot _ (omega arith) _ c.in-Decided.is
 
-pub returns-in-default : goal.returns-in-default
-returns-in-default c = decided_none c.args.self.now.table c.args.slot _ (omega arith) c.in-default.not-Decided
+pub returns-in_default : goal.returns-in_default
+returns-in_default c = decided_none c.args.self.now.table c.args.slot _ (omega arith) c.in_default.not-Decided

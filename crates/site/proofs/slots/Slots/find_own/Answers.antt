@@ -1,4 +1,4 @@
-use Rattle.std.proofs.Common.{◌≡◌, cond, Some, None, Option, sym, ap, ◌∙◌, arith}
+use Rattle.std.proofs.Common.{cond, Some, None, sym, ap, ◌∙◌, arith}
 use Rattle.site.proofs.Settling.{own_at, own_none}
 use Rattle.site.proofs.slots.Slots.find_own.Goals as goal
 
@@ -12,5 +12,5 @@ returns-else-is_spelt c =
     ap (λ b. cond b (Some c.in-Posted.edit.ticket) None) (sym (sym c.is_spelt.ensures ∙ c.if-is_spelt.false))
     ∙ own_at c.args.home.number c.args.words.now c.args.self.now.table c.args.slot _ (omega arith) _ c.in-Posted.is
 
-pub returns-in-default : goal.returns-in-default
-returns-in-default c = own_none c.args.home.number c.args.words.now c.args.self.now.table c.args.slot _ (omega arith) c.in-default.not-Posted
+pub returns-in_default : goal.returns-in_default
+returns-in_default c = own_none c.args.home.number c.args.words.now c.args.self.now.table c.args.slot _ (omega arith) c.in_default.not-Posted

@@ -1,7 +1,7 @@
 use Rattle.std.proofs.Common.{sym, ap, ◌∙◌, arith}
 use Rattle.site.proofs.SlotLaws.{needed_after, needed_rest, needed_more, needed_end}
 use Rattle.site.proofs.slots.Slots.keep.Goals as goal
-use Rattle.site.proofs.slots.Slots.keep.Goals.{in-Open, in-Posted, in-default}
+use Rattle.site.proofs.slots.Slots.keep.Goals.{in-Open, in-Posted, in_default}
 
 pub loop-i-preserved : goal.loop-i-preserved
 loop-i-preserved c =
@@ -11,7 +11,7 @@ loop-i-preserved c =
     elim c.match-held.branch [
       | in-Open w ↦ (needed_more xs i c.index-self-i.result v _ (omega arith) (w.least-is ∙ w.min-least.ensures ∙ ap (needed_after v) (sym w.in-Open.is)) ∙ c.loop-i.invariant)
       | in-Posted w ↦ (needed_more xs i c.index-self-i.result v _ (omega arith) (w.least-is ∙ w.min-least-in-Posted.ensures ∙ ap (needed_after v) (sym w.in-Posted.is)) ∙ c.loop-i.invariant)
-      | in-default w ↦ (needed_more xs i c.index-self-i.result v _ (omega arith) (w.least-is ∙ needed_rest v _ w.in-default.not-Open w.in-default.not-Posted) ∙ c.loop-i.invariant)
+      | in_default w ↦ (needed_more xs i c.index-self-i.result v _ (omega arith) (w.least-is ∙ needed_rest v _ w.in_default.not-Open w.in_default.not-Posted) ∙ c.loop-i.invariant)
     ]
 
 pub returns : goal.returns

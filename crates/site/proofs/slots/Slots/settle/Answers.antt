@@ -1,12 +1,12 @@
-use Rattle.std.proofs.Common.{◌≡◌, map, set, sym, ap, ◌∙◌, arith}
+use Rattle.std.proofs.Common.{set, sym, ap, ◌∙◌, arith}
 use lib.ListN.{length-map}
-use Rattle.std.proofs.lemmas.List.{map_set}
+use Rattle.std.proofs.lemmas.List.{map-set}
 use Rattle.site.specs.declared.slots.Slot.TheVariants.{Decided}
 use Rattle.site.specs.Slots.{slot_model, slots_model, settled, decided, own_ticket}
 use Rattle.std.specs.List.{slice_get}
 use Rattle.site.proofs.Settling.{all_changed, settle_found, settle_rest}
 use Rattle.site.proofs.slots.Slots.settle.Goals as goal
-use Rattle.site.proofs.slots.Slots.settle.Goals.{in-Some, in-default}
+use Rattle.site.proofs.slots.Slots.settle.Goals.{in-Some, in_default}
 
 pub loop-i-preserved : goal.loop-i-preserved
 loop-i-preserved c =
@@ -17,13 +17,13 @@ loop-i-preserved c =
     let ss = slots_model c.args.self.now in
     elim c.match-find_own.branch [
       | in-Some w ↦ (ap slots_model w.self-is
-          ∙ map_set slot_model c.loop-i.self.table n (Decided w.in-Some.ticket d)
+          ∙ map-set slot_model c.loop-i.self.table n (Decided w.in-Some.ticket d)
           ∙ ap (λ l. set l n (decided w.in-Some.ticket d)) c.loop-i.invariant
           ∙ settle_found i ws d n ss w.in-Some.ticket
           (ap (λ l. own_ticket i ws (slice_get l n)) (sym c.loop-i.invariant) ∙ sym c.find_own.ensures ∙ w.in-Some.is))
-      | in-default w ↦ (ap slots_model w.self-is ∙ c.loop-i.invariant
+      | in_default w ↦ (ap slots_model w.self-is ∙ c.loop-i.invariant
           ∙ settle_rest i ws d n ss (omega (arith, length-map c.args.self.now.table slot_model, c.args.self.now.eight))
-          (ap (λ l. own_ticket i ws (slice_get l n)) (sym c.loop-i.invariant) ∙ sym c.find_own.ensures ∙ w.in-default.is))
+          (ap (λ l. own_ticket i ws (slice_get l n)) (sym c.loop-i.invariant) ∙ sym c.find_own.ensures ∙ w.in_default.is))
     ]
 
 pub returns : goal.returns
