@@ -1,19 +1,17 @@
 -- The sites that a group is made of: what is tested of them, and that a run begins with them.
-use Rattle.std.proofs.Common.{◌≡◌, ℕ, zero, suc, ◌+◌, ◌<◌, ◌≤◌, Bool, true, false, not, ◌&&◌, eqb, ltb, leb, List, [], ◌∷◌, map, length, get_or, drop, replicate, is_some, Some, None, Option, sym, refl, ap, ◌∙◌, subst, add-one, arith}
+use Rattle.std.proofs.Common.{◌≡◌, ℕ, zero, suc, ◌+◌, ◌<◌, ◌≤◌, Bool, true, false, not, ◌&&◌, eqb, leb, List, [], ◌∷◌, map, length, get_or, drop, replicate, is_some, Some, None, Option, sym, refl, ap, ◌∙◌, subst, add-one, arith}
 use Rattle.std.specs.List.{slice_get}
 use Rattle.std.proofs.lemmas.List.{at_drop_more, at_drop_all, length-map}
 use Rattle.std.proofs.lemmas.Bool.{and_parts, and_from, eqb-true, lt-ltb, lt-leb, le-leb}
 use Rattle.words.specs.Bits.{is_group}
-use Rattle.store.specs.StoreModel.{StoreModel}
-use Rattle.logs.specs.LogModel.{LogModel}
 use Rattle.site.specs.declared.modes.Mode.{Mode}
 use Rattle.site.specs.declared.modes.Mode.TheVariants.{Whole, Partial, Down}
 use Rattle.site.specs.Slots.{SlotModel, empty, opened, posted, decided, is_empty, all_empty}
 use Rattle.site.specs.SiteModel.{SiteModel, a_site}
-use Rattle.site.specs.Making.{is_fresh_store, is_fresh_log, can_make, new_site}
-use Rattle.site.specs.Calls.{is_whole, called}
-use Rattle.site.specs.Spoken.{is_idle, is_new, Bounded}
-use Rattle.group.specs.Runs.{Fresh, FreshGroup, Run, starts}
+use Rattle.site.specs.Making.{is_fresh_store, is_fresh_log}
+use Rattle.site.specs.Calls.{is_whole}
+use Rattle.site.specs.Spoken.{is_new, Bounded}
+use Rattle.group.specs.Runs.{Fresh, starts}
 use Rattle.group.specs.Groups.{new_from, are_new, Starts}
 
 -- each site from number i on, by the test of the one there

@@ -1,5 +1,5 @@
 -- What is right in the record of a run, by the account of the whole list of messages.
-use Rattle.std.specs.Prelude.{◌≡◌, ℕ, zero, suc, ◌<◌, true, List, [], ◌∷◌, length, take, ℤ, Some, None, Option}
+use Rattle.std.specs.Prelude.{◌≡◌, ℕ, zero, suc, ◌<◌, true, List, [], ◌∷◌, take, ℤ, Some, None, Option}
 use Rattle.std.specs.List.{slice_get}
 use Rattle.words.specs.declared.changes.Write.{Write}
 use Rattle.words.specs.Messages.{an_edit, message_of}

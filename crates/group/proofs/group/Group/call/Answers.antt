@@ -19,11 +19,11 @@ returns g c =
     let model = g.C.Calls.model in
     let sites = c.args.self.now.sites.items in
     let asks = asked c.args.request c.args.words.now (length c.args.out.now) in
-    let x = c.index-mut.result.now in
+    let x = c.index_mut.result.now in
     let within : c.args.site < length sites = omega (arith, c.args.self.now.sites.ok.0) in
     let a = heard c.call.result c.call.new.out in
     record {
-      answered = one_call model sites c.args.site x within c.index-mut.ensures.value asks c.call.new.self a c.call.ensures.answered;
+      answered = one_call model sites c.args.site x within c.index_mut.ensures.value asks c.call.new.self a c.call.ensures.answered;
       buffer = c.call.ensures.buffer;
-      lawful = one_goes_on model sites c.args.site x within c.index-mut.ensures.value asks c.call.new.self a c.call.ensures.answered;
+      lawful = one_goes_on model sites c.args.site x within c.index_mut.ensures.value asks c.call.new.self a c.call.ensures.answered;
     }
