@@ -1,11 +1,10 @@
 -- Lines, one word after another.
-use Rattle.std.proofs.Common.{◌≡◌, ℕ, true, false, eqb, List, [], ◌∷◌, ◌++◌, length, Some, None, Ok, Err, Option, Result, sym, refl, ap, ◌∙◌, arith}
-use Rattle.std.proofs.lemmas.List.{append_assoc, append-nil}
-use Rattle.std.proofs.lemmas.Bool.{true≢false, eqb-true}
+use Rattle.std.proofs.Common.{◌≡◌, ℕ, false, eqb, List, [], ◌∷◌, ◌++◌, length, Some, Ok, Err, Result, sym, refl, ap, ◌∙◌}
+use Rattle.std.proofs.lemmas.List.{append_assoc}
+use Rattle.std.proofs.lemmas.Bool.{true≢false}
 use Rattle.text.specs.Numbers.{hex_word_of}
 use Rattle.text.specs.Split.{led}
 use Rattle.audit.specs.declared.lines.Reason.{Reason}
-use Rattle.audit.specs.declared.lines.Reason.TheVariants.{NoWord}
 use Rattle.audit.specs.Lines.{consed, hex_words}
 
 -- words that stand before those of a line
