@@ -14,9 +14,10 @@ import re
 import sys
 
 DECLARED = re.compile(r"^\s*(?:(?:abbrev|unfoldable|pub|private|data|record)\s+)*([^\s:(){}.,;]+)(?:\s+\([^)]*\)|\s+\{[^}]*\})*\s+:\s+(.*)$")
-FOREIGN = re.compile(r"^use (?:Rattle\.(?:std|core)|borrow|mathlib|Prim|native|lib)[\w.]*(?:\.\{([^}]*)\})?")
+RECORD = re.compile(r"^\s*(?:pub\s+)?(?:data|record)\s+(?:pub\s+)?([^\s:(){}.,;]+)")
+FOREIGN = re.compile(r"^use (?:Rattle\.(?:std|core)|borrow|mathlib|Prim|native|lib)[\w.]*?(?:\.\{([^}]*)\})?$")
 MADE = [
-    ("in-ok", "in_ok"), ("in-err", "in_err"), ("overflow-add", "overflow_add"), ("overflow-sub", "overflow_sub"),
+    ("in-ok", "in_ok"), ("in-default", "in_default"), ("in-err", "in_err"), ("overflow-add", "overflow_add"), ("overflow-sub", "overflow_sub"),
     ("overflow-mul", "overflow_mul"), ("from-residual", "from_residual"),
 ]
 # Endings that the toolchain gives the names of a loop: an index, its end, the items.
@@ -57,7 +58,11 @@ def declared():
     names = {}
     for path in texts(".antt", "specs", "proofs"):
         for line in read(path).splitlines():
-            m = DECLARED.match(code(line, "--")[0])
+            text = code(line, "--")[0]
+            m = RECORD.match(text)
+            if m and "-" in m[1].strip("-"):
+                names.setdefault(m[1], set()).add(path)
+            m = DECLARED.match(text)
             if m and "-" in m[1].strip("-") and not m[2].startswith("goal."):
                 names.setdefault(m[1], set()).add(path)
     return {n: respelt(n) for n in names if respelt(n) != n}, names

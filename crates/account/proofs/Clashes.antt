@@ -8,7 +8,7 @@ use Rattle.words.specs.Messages.{an_edit, message_of}
 use Rattle.account.specs.declared.decisions.Decision.{Decision}
 use Rattle.account.specs.declared.decisions.Decision.TheVariants.{Conflict, Commit}
 use Rattle.account.specs.Account.{Account, Committed, a_commit, meets, lowest_clash, ruling, decide, added, horizon, last_version, commits_of, commit_of}
-use Rattle.account.specs.Laws.{Decided-edit, CommitsClear, ConflictsLowest}
+use Rattle.account.specs.Laws.{DecidedEdit, CommitsClear, ConflictsLowest}
 use Rattle.account.proofs.Places.{nth_within, nth_front, nth_at, nth_drop, same_some}
 use Rattle.account.proofs.Steps.{before, decided_there, commits_there}
 
@@ -82,7 +82,7 @@ above cs rest s (suc v) c h k e =
     nth_drop cs s (suc v - suc s) ∙ ap (slice_get cs) i ∙ sym (nth_front cs rest v (omega arith)) ∙ e
 
 -- an edit decided at a place
-module _ (n : ℕ) (ms : List (List ℕ)) (k h t s : ℕ) (l : List Write) (d : Decision) (at : Decided-edit n ms k h t s l d) where
+module _ (n : ℕ) (ms : List (List ℕ)) (k h t s : ℕ) (l : List Write) (d : Decision) (at : DecidedEdit n ms k h t s l d) where
   then : Account
   then = before n ms k
 

@@ -22,7 +22,7 @@ abbrev pub ClearBetween : List Committed → List Write → ℕ → ℕ → Type
 ClearBetween cs l s v = (w : ℕ) (c : Committed) → s < w → w < v → commit_of cs w ≡ Some c → meets c.writes l ≡ false
 
 -- Place k of the list (from 0) is an edit by h with ticket t, snapshot s and writes l, decided as d.
-pub record Decided-edit (n : ℕ) (ms : List (List ℕ)) (k h t s : ℕ) (l : List Write) (d : Decision) : Type 0 where
+pub record DecidedEdit (n : ℕ) (ms : List (List ℕ)) (k h t s : ℕ) (l : List Write) (d : Decision) : Type 0 where
   pub words : List ℕ
   pub there : slice_get ms k ≡ Some words
   pub edit : message_of n words ≡ Some (an_edit h t s l)
@@ -30,11 +30,11 @@ pub record Decided-edit (n : ℕ) (ms : List (List ℕ)) (k h t s : ℕ) (l : Li
 
 -- A committed edit is the commit of its version, above its snapshot, and no commit between the two wrote one of its items.
 abbrev pub CommitsClear : Type 0
-CommitsClear = (n : ℕ) (ms : List (List ℕ)) (k h t s : ℕ) (l : List Write) (v : ℕ) → Decided-edit n ms k h t s l (Commit v) →
+CommitsClear = (n : ℕ) (ms : List (List ℕ)) (k h t s : ℕ) (l : List Write) (v : ℕ) → DecidedEdit n ms k h t s l (Commit v) →
     (s < v) × (commit_of (commits_of n ms) v ≡ Some (a_commit h t l)) × ClearBetween (commits_of n ms) l s v
 
 -- A conflict names a commit above the snapshot that wrote one of the edit's items, and the lowest such.
 abbrev pub ConflictsLowest : Type 0
-ConflictsLowest = (n : ℕ) (ms : List (List ℕ)) (k h t s : ℕ) (l : List Write) (w : ℕ) → Decided-edit n ms k h t s l (Conflict w) →
+ConflictsLowest = (n : ℕ) (ms : List (List ℕ)) (k h t s : ℕ) (l : List Write) (w : ℕ) → DecidedEdit n ms k h t s l (Conflict w) →
     (s < w) × ((c : Committed) × ((commit_of (commits_of n ms) w ≡ Some c) × (meets c.writes l ≡ true)))
     × ClearBetween (commits_of n ms) l s w

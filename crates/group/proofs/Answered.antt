@@ -16,7 +16,7 @@ use Rattle.site.specs.CatchUp.{page_at}
 use Rattle.site.specs.SiteModel.{SiteModel}
 use Rattle.site.specs.Calls.{first, Call, Read, Look, Outcome, Deliver, Page, Value, Pending, Told, Wrote, drafted, edit_or, own_or, outcome_of, table, called}
 use Rattle.group.specs.Record.{Turn, a_turn, seals, last_write}
-use Rattle.group.specs.Law.{at_place, ReadsRight, Decides-right, OutcomeRight, PendingRight, Writes-right, Turn-right}
+use Rattle.group.specs.Law.{at_place, ReadsRight, DecidesRight, OutcomeRight, PendingRight, WritesRight, TurnRight}
 use Rattle.group.specs.Runs.{Supposed}
 use Rattle.group.proofs.LogSound.{log_writes}
 use Rattle.group.proofs.Tables.{draft_slot, awaited_slot}
@@ -54,12 +54,12 @@ module _ {ms : List (List ℕ)} {ts : List Turn} {m : SiteModel} (s : Sound ms t
       let value : o ≡ read_at m.store x m.store.version = cc in
       value ∙ s.store.reads m.store.version x s.store.within (omega arith) ∙ ap (λ v. scene cs v x) (sym s.slots.count)
 
-  decides_right : (p : ℕ) (ws : List ℕ) (d : Decision) → (called m (Deliver p ws)).0 ≡ Told d → at_place ms p ≡ Some ws → Decides-right m.sites ms p ws d
+  decides_right : (p : ℕ) (ws : List ℕ) (d : Decision) → (called m (Deliver p ws)).0 ≡ Told d → at_place ms p ≡ Some ws → DecidesRight m.sites ms p ws d
   decides_right p ws d q g =
       let c = carried m (Deliver p ws) (Told d) q tt in
       let said = c.1 in
       let same : certified m.log (message_of m.sites ws) ≡ d = cc in
-      subst (Decides-right m.sites ms p ws) same (delivery_decides s p ws c.0 g)
+      subst (DecidesRight m.sites ms p ws) same (delivery_decides s p ws c.0 g)
 
   -- a posted edit, by its handle: decided or pending
   abbrev AwaitedRight : Handle → Option Decision → Type 0
@@ -95,15 +95,15 @@ module _ {ms : List (List ℕ)} {ts : List Turn} {m : SiteModel} (s : Sound ms t
       by_decision None e a = a
       by_decision (Some x) e a = absurd (let z : ◌≡◌ {A = ℕ} 0 1 = cc in omega arith)
 
-  pages_right : (v room : ℕ) (ws : List ℕ) → (called m (Page v room)).0 ≡ Wrote ws → Writes-right m.sites ms ws
+  pages_right : (v room : ℕ) (ws : List ℕ) → (called m (Page v room)).0 ≡ Wrote ws → WritesRight m.sites ms ws
   pages_right v room ws q =
       let c = carried m (Page v room) (Wrote ws) q tt in
       let t = λ (k : ℕ). passed (table m (Page v room)) k c.0 in
       let said = c.1 in
       let same : page_words (page_at m.log v) ≡ ws = cc in
-      subst (Writes-right m.sites ms) same (log_writes s.log s.group (whole_log m.mode m.log.whole s.mode (t 1) (t 2)) v)
+      subst (WritesRight m.sites ms) same (log_writes s.log s.group (whole_log m.mode m.log.whole s.mode (t 1) (t 2)) v)
 
-  pub turn_right : (c : Call) → Supposed ms ts (a_turn m.number c (called m c).0) → Turn-right m.sites ms (a_turn m.number c (called m c).0) ts
+  pub turn_right : (c : Call) → Supposed ms ts (a_turn m.number c (called m c).0) → TurnRight m.sites ms (a_turn m.number c (called m c).0) ts
   turn_right c g = record {
     reads = λ h x o p q. reads_right h x o (at p ∙ q);
     looks = λ x o p q. looks_right x o (at p ∙ q);

@@ -12,7 +12,7 @@ use Rattle.account.proofs.Steps.{before, decided_there}
 use Rattle.account.proofs.Clashes.{commits_clear, conflicts_lowest}
 use Rattle.logs.specs.LogModel.{LogModel, last_version, least}
 use Rattle.site.specs.Certify.{as_commit, clash_above, judged_by, certified}
-use Rattle.group.specs.Law.{Decides-right}
+use Rattle.group.specs.Law.{DecidesRight}
 use Rattle.group.proofs.Leasts.{same_least}
 
 -- a ruling asks for the clash only of an edit that is not too old
@@ -52,7 +52,7 @@ module _ (l : LogModel) (past : List Committed) (counts : length past ≡ l.floo
 
 -- what the account decides at a place
 pub decides_right : (n : ℕ) (ms : List (List ℕ)) (k : ℕ) (ws : List ℕ) (d : Decision) → slice_get ms k ≡ Some ws →
-    d ≡ decide (account_after n (take k ms)) (message_of n ws) → Decides-right n ms (suc k) ws d
+    d ≡ decide (account_after n (take k ms)) (message_of n ws) → DecidesRight n ms (suc k) ws d
 unfolding before
 decides_right n ms k ws d there e =
     let decided : slice_get (decisions n ms) k ≡ Some d = decided_there n ms k ws there ∙ ap Some (sym e) in

@@ -12,7 +12,7 @@ use Rattle.site.specs.Slots.{held_decision}
 use Rattle.site.specs.SiteModel.{SiteModel}
 use Rattle.site.specs.Calls.{first, Call, Begin, Read, Look, Put, Post, GiveUp, Outcome, LetGo, Deliver, Step, Report, Page, Take, Trim, Prune, Crash, Wake, Answer, Declined, Wrote, drafted, awaited, after_outcome, after_page, is_behind, stepped_in, stepped, table, answered, left, by_table, called}
 use Rattle.group.specs.Record.{Turn, a_turn}
-use Rattle.group.specs.Law.{Writes-right, RecordRight}
+use Rattle.group.specs.Law.{WritesRight, RecordRight}
 use Rattle.group.specs.Runs.{Supposed}
 use Rattle.group.proofs.SiteSound.{Sound, sound_quiet}
 use Rattle.group.proofs.DraftCalls.{begin_kept, put_kept, post_kept, give_up_kept, let_go_kept, outcome_kept}
@@ -21,14 +21,14 @@ use Rattle.group.proofs.LogCalls.{deliver_kept, take_kept, trim_kept, prune_kept
 
 -- every page of a right record was rightly written
 abbrev RightPage : ℕ → List (List ℕ) → Turn → Type 0
-RightPage n ms t = (v room : ℕ) (ws : List ℕ) → t.call ≡ Page v room → t.answer ≡ Wrote ws → Writes-right n ms ws
+RightPage n ms t = (v room : ℕ) (ws : List ℕ) → t.call ≡ Page v room → t.answer ≡ Wrote ws → WritesRight n ms ws
 
 right_pages : (n : ℕ) (ms : List (List ℕ)) (ts : List Turn) → RecordRight n ms ts → All (RightPage n ms) ts
 right_pages n ms [] r = tt
 right_pages n ms (t ∷ ts) r = (r.0.pages, right_pages n ms ts r.1)
 
 page_written : (n : ℕ) (ms : List (List ℕ)) (ts : List Turn) (i v room : ℕ) (ws : List ℕ) → RecordRight n ms ts → Has ts (a_turn i (Page v room) (Wrote ws)) →
-    Writes-right n ms ws
+    WritesRight n ms ws
 page_written n ms ts i v room ws r h = all-has (RightPage n ms) ts (a_turn i (Page v room) (Wrote ws)) (right_pages n ms ts r) h v room ws refl refl
 
 module _ {ms : List (List ℕ)} {ts : List Turn} {m : SiteModel} (s : Sound ms ts m) (r : RecordRight m.sites ms ts) where

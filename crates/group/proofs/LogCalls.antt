@@ -15,7 +15,7 @@ use Rattle.site.specs.SiteModel.{SiteModel, keep, horizon}
 use Rattle.site.specs.Calls.{first, Deliver, Take, Trim, Prune, Crash, Wake, Done, Told, after_page, marked, table, answered, left}
 use Rattle.site.proofs.SlotLaws.{needed_within}
 use Rattle.group.specs.Record.{Turn, a_turn}
-use Rattle.group.specs.Law.{at_place, Decides-right, Writes-right}
+use Rattle.group.specs.Law.{at_place, DecidesRight, WritesRight}
 use Rattle.group.proofs.LogSteps.{after_on, after_whole, taken_on, entry_clears, closing_marks, trimmed_floor, trimmed_last}
 use Rattle.group.proofs.LogSound.{log_size, log_last, log_decides, log_delivers, log_trims, log_takes}
 use Rattle.group.proofs.Tables.{needed_from, needed_above}
@@ -50,8 +50,8 @@ module _ {ms : List (List ℕ)} {ts : List Turn} {m : SiteModel} (s : Sound ms t
     there : at_place ms (m.log.place + 1) ≡ Some ws
     there = ap (at_place ms) next ∙ given
 
-    pub delivery_decides : Decides-right m.sites ms p ws (certified m.log (message_of m.sites ws))
-    delivery_decides = subst (λ k. Decides-right m.sites ms k ws decision) next (log_decides s.log whole ws there)
+    pub delivery_decides : DecidesRight m.sites ms p ws (certified m.log (message_of m.sites ws))
+    delivery_decides = subst (λ k. DecidesRight m.sites ms k ws decision) next (log_decides s.log whole ws there)
 
     pub deliver_kept : Sound ms (a_turn m.number (Deliver p ws) (answered m (Deliver p ws)) ∷ ts) (left m (Deliver p ws))
     deliver_kept =
@@ -74,7 +74,7 @@ module _ {ms : List (List ℕ)} {ts : List Turn} {m : SiteModel} (s : Sound ms t
   taken_fits ws (an_entry h v t l) e r = entry_clears m.log h v t l r
   taken_fits ws (a_closing v d ks) e r = closing_marks m.log m.sites v d ks ws (log_size s.log) e
 
-  pub take_kept : (ws : List ℕ) → first (table m (Take ws)) ≡ None → Writes-right m.sites ms ws →
+  pub take_kept : (ws : List ℕ) → first (table m (Take ws)) ≡ None → WritesRight m.sites ms ws →
       Sound ms (a_turn m.number (Take ws) Done ∷ ts) (left m (Take ws))
   take_kept ws f w =
       let p = w.page in

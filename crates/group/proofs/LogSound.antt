@@ -20,7 +20,7 @@ use Rattle.site.specs.SiteModel.{SiteModel}
 use Rattle.site.specs.Making.{is_fresh_store, is_fresh_log}
 use Rattle.site.specs.Certify.{as_commit, judged_by, certified, kept, is_commit, number_or_zero, heard_by, declines, log_after}
 use Rattle.site.specs.CatchUp.{covers, page_after, page_at, follows, has_room_for, log_taken}
-use Rattle.group.specs.Law.{at_place, Decides-right, PageRight, Writes-right, LogRight}
+use Rattle.group.specs.Law.{at_place, DecidesRight, PageRight, WritesRight, LogRight}
 use Rattle.group.specs.Runs.{Fresh}
 use Rattle.group.proofs.Nths.{nth_left, nth_right, nth_after, nth_map}
 use Rattle.group.proofs.Accounts.{account_next, commits_front}
@@ -31,7 +31,7 @@ use Rattle.group.proofs.Judged.{last_is, certified_is, decides_right}
 use Rattle.group.proofs.PagesRight.{page_writes}
 
 -- The commits are those up to the log's floor, the log's entries, and the rest; a log that is whole has the account of its place.
-pub record Log-sound (n : ℕ) (ms : List (List ℕ)) (l : LogModel) : Type 0 where
+pub record LogSound (n : ℕ) (ms : List (List ℕ)) (l : LogModel) : Type 0 where
   pub past : List Committed
   pub rest : List Committed
   pub counts : length past ≡ l.floor
@@ -42,7 +42,7 @@ pub record Log-sound (n : ℕ) (ms : List (List ℕ)) (l : LogModel) : Type 0 wh
   pub place_bound : l.place ≤ 268435455
   pub whole : l.whole ≡ true → account_after n (take l.place ms) ≡ an_account (past ++ map as_commit l.entries) l.known
 
-fresh_sound : (n : ℕ) (ms : List (List ℕ)) (l : LogModel) → length l.known ≡ n → is_fresh_log l ≡ true → Log-sound n ms l
+fresh_sound : (n : ℕ) (ms : List (List ℕ)) (l : LogModel) → length l.known ≡ n → is_fresh_log l ≡ true → LogSound n ms l
 fresh_sound n ms l size fresh =
     let u = unused n l size fresh in
     let none : l.entries ≡ [] = nil_from_length l.entries (omega (arith, u.last)) in
@@ -58,7 +58,7 @@ fresh_sound n ms l size fresh =
       whole = λ _. rw (u.place, none, u.known);
     }
 
-pub log_starts : {n i : ℕ} {m : SiteModel} (ms : List (List ℕ)) → Fresh n i m → Log-sound n ms m.log
+pub log_starts : {n i : ℕ} {m : SiteModel} (ms : List (List ℕ)) → Fresh n i m → LogSound n ms m.log
 log_starts {n} {i} {m} ms f =
     let l = f.log in
     let a = and_parts (is_group (length l.known)) (ltb i (length l.known) && (is_fresh_store f.store && is_fresh_log l)) f.makeable in
@@ -66,7 +66,7 @@ log_starts {n} {i} {m} ms f =
     let same : m.log ≡ l = ap (λ x. x.log) f.new in
     rw same (fresh_sound n ms l f.size (and_parts (is_fresh_store f.store) (is_fresh_log l) b.1).1)
 
-module _ {n : ℕ} {ms : List (List ℕ)} {l : LogModel} (s : Log-sound n ms l) where
+module _ {n : ℕ} {ms : List (List ℕ)} {l : LogModel} (s : LogSound n ms l) where
   pub log_size : length l.known ≡ n
   log_size = s.size
 
@@ -87,7 +87,7 @@ module _ {n : ℕ} {ms : List (List ℕ)} {l : LogModel} (s : Log-sound n ms l) 
   -- other marks over the same entries
   remarked : (k : Marks) → l.floor ≤ least k.known → length k.known ≡ n → k.place ≤ 268435455 →
       (k.whole ≡ true → account_after n (take k.place ms) ≡ an_account (s.past ++ map as_commit l.entries) k.known) →
-      Log-sound n ms (a_log (held l) k)
+      LogSound n ms (a_log (held l) k)
   remarked k low size place whole =
       record {
         past = s.past;
@@ -101,13 +101,13 @@ module _ {n : ℕ} {ms : List (List ℕ)} {l : LogModel} (s : Log-sound n ms l) 
         whole = whole;
       }
 
-  pub log_tickets : Log-sound n ms (ticketed l)
+  pub log_tickets : LogSound n ms (ticketed l)
   log_tickets =
       let more = a_mark l.place l.known (l.tickets + 1) l.whole in
-      cond_both (ltb l.tickets limit) more (marks l) (λ k. Log-sound n ms (a_log (held l) k))
+      cond_both (ltb l.tickets limit) more (marks l) (λ k. LogSound n ms (a_log (held l) k))
       (λ _. remarked more s.low s.size s.place_bound s.whole) (λ _. s)
 
-  pub log_trims : (v : ℕ) → v ≤ least l.known → Log-sound n ms (trimmed l v)
+  pub log_trims : (v : ℕ) → v ≤ least l.known → LogSound n ms (trimmed l v)
   log_trims v h =
       let k : ℕ = min v (last_version l) - l.floor in
       let es = l.entries in
@@ -141,7 +141,7 @@ module _ {n : ℕ} {ms : List (List ℕ)} {l : LogModel} (s : Log-sound n ms l) 
     decided : (o : Option MessageValue) → certified l o ≡ decide so_far o
     decided = certified_is l s.past s.counts s.low
 
-    pub log_decides : Decides-right n ms (l.place + 1) ws (certified l (message_of n ws))
+    pub log_decides : DecidesRight n ms (l.place + 1) ws (certified l (message_of n ws))
     log_decides =
         rw (add-one l.place) (decides_right n ms l.place ws (certified l (message_of n ws)) there
         (decided (message_of n ws) ∙ ap (λ a. decide a (message_of n ws)) (sym (s.whole whole))))
@@ -150,7 +150,7 @@ module _ {n : ℕ} {ms : List (List ℕ)} {l : LogModel} (s : Log-sound n ms l) 
       module _ (o : Option MessageValue) (read : message_of n ws ≡ o) where
         -- the log with what the account adds and hears
         next_sound : (es : List Entry) (ks : List ℕ) → map as_commit es ≡ map as_commit l.entries ++ added (certified l o) o → ks ≡ heard so_far o →
-            l.floor + length es ≤ 268435455 → Log-sound n ms (with_held l es (next_mark l ks))
+            l.floor + length es ≤ 268435455 → LogSound n ms (with_held l es (next_mark l ks))
         next_sound es ks grown hears high =
             let front = commits_front n ms (l.place + 1) in
             let commits : so_far.commits ++ added (decide so_far o) o ≡ s.past ++ map as_commit es =
@@ -171,19 +171,19 @@ module _ {n : ℕ} {ms : List (List ℕ)} {l : LogModel} (s : Log-sound n ms l) 
               whole = λ _. new;
             }
 
-        passes : l.known ≡ heard so_far o → added (certified l o) o ≡ [] → Log-sound n ms (passed l)
+        passes : l.known ≡ heard so_far o → added (certified l o) o ≡ [] → LogSound n ms (passed l)
         passes hears none =
             let es = map as_commit l.entries in
-            subst (Log-sound n ms) (sym (passed_is l room))
+            subst (LogSound n ms) (sym (passed_is l room))
             (next_sound l.entries l.known (sym (append-nil es) ∙ ap (λ x. es ++ x) (sym none)) hears s.last_bound)
 
-      report_sound : (i r : ℕ) → message_of n ws ≡ Some (a_report i r) → Log-sound n ms (heard_by l i r)
+      report_sound : (i r : ℕ) → message_of n ws ≡ Some (a_report i r) → LogSound n ms (heard_by l i r)
       report_sound i r read =
           let own : i < length l.known = omega (arith, report_own n i r ((message_spelling n ws (a_report i r)).0 read).1, s.size) in
           let known = rw (s.whole whole) at (known_up_to_last n (take l.place ms)) in
           let k : ℕ = max (number_or_zero (slice_get l.known i)) (min r (last_version l)) in
           let small : k ≤ 268435455 = omega (arith, up_to_at _ l.known i known, last, s.last_bound) in
-          subst (Log-sound n ms) (sym (noted_is l i k own small room))
+          subst (LogSound n ms) (sym (noted_is l i k own small room))
           (next_sound (Some (a_report i r)) read l.entries (set l.known i k) (sym (append-nil (map as_commit l.entries)))
           (raise_noted l.known i (min r (last_version l)) own ∙ ap (λ v. raise l.known i (min r v)) (sym last)) s.last_bound)
 
@@ -191,10 +191,10 @@ module _ {n : ℕ} {ms : List (List ℕ)} {l : LogModel} (s : Log-sound n ms l) 
         abbrev new_entry : Entry
         new_entry = entry_of h t us
 
-        uncommitted : (d : Decision) → judged_by l x us ≡ d → added d (Some (an_edit h t x us)) ≡ [] → Log-sound n ms (passed l)
+        uncommitted : (d : Decision) → judged_by l x us ≡ d → added d (Some (an_edit h t x us)) ≡ [] → LogSound n ms (passed l)
         uncommitted d e none = passes (Some (an_edit h t x us)) read refl (ap (λ y. added y (Some (an_edit h t x us))) e ∙ none)
 
-        edit_sound : (d : Decision) → judged_by l x us ≡ d → (is_commit d && not (can_commit l new_entry)) ≡ false → Log-sound n ms (kept l new_entry d)
+        edit_sound : (d : Decision) → judged_by l x us ≡ d → (is_commit d && not (can_commit l new_entry)) ≡ false → LogSound n ms (kept l new_entry d)
         edit_sound Void e taken = uncommitted Void e refl
         edit_sound Noted e taken = uncommitted Noted e refl
         edit_sound Ahead e taken = uncommitted Ahead e refl
@@ -203,22 +203,22 @@ module _ {n : ℕ} {ms : List (List ℕ)} {l : LogModel} (s : Log-sound n ms l) 
         edit_sound (Commit v) e taken =
             let can = not-false (can_commit l new_entry) taken in
             let fits = append_parts (held l) new_entry (and_parts (ltb l.place limit) (can_append (held l) new_entry) can).1 in
-            subst (Log-sound n ms) (sym (committed_is l new_entry can))
+            subst (LogSound n ms) (sym (committed_is l new_entry can))
             (next_sound (Some (an_edit h t x us)) read (l.entries ++ (new_entry ∷ [])) l.known
             (map_push as_commit l.entries new_entry ∙ ap (λ d. map as_commit l.entries ++ added d (Some (an_edit h t x us))) (sym e))
             refl (omega (arith, length_push l.entries new_entry, fits.2)))
 
-      by_message : (o : Option MessageValue) → message_of n ws ≡ o → declines l o ≡ false → Log-sound n ms (log_after l o)
+      by_message : (o : Option MessageValue) → message_of n ws ≡ o → declines l o ≡ false → LogSound n ms (log_after l o)
       by_message None read taken = passes None read refl refl
       by_message (Some (a_report i r)) read taken = report_sound i r read
       by_message (Some (an_edit h t x us)) read taken = edit_sound h t x us read (judged_by l x us) refl taken
 
-      pub log_delivers : declines l (message_of n ws) ≡ false → Log-sound n ms (log_after l (message_of n ws))
+      pub log_delivers : declines l (message_of n ws) ≡ false → LogSound n ms (log_after l (message_of n ws))
       log_delivers = by_message (message_of n ws) refl
 
   -- pages that are taken and written
   pub log_takes : (ws : List ℕ) (p : PageValue) → page_of n ws ≡ Some p → PageRight n ms p → follows l p ≡ true → has_room_for l p ≡ true →
-      Log-sound n ms (log_taken l p)
+      LogSound n ms (log_taken l p)
   log_takes ws (an_entry h v t us) e right next room =
       let x = entry_of h t us in
       let at : v ≡ suc (last_version l) = eqb-true v (last_version l + 1) next ∙ add-one (last_version l) in
@@ -249,10 +249,10 @@ module _ {n : ℕ} {ms : List (List ℕ)} {l : LogModel} (s : Log-sound n ms l) 
       (omega (arith, s.low, least_covers l.known ks (s.size ∙ sym c.many) covering)) c.many c.place
       (λ _. ap (λ x. an_account x then.known) commits ∙ ap (an_account so_far.commits) (sym right.1)))
 
-  pub log_writes : is_group n ≡ true → l.whole ≡ true → (v : ℕ) → Writes-right n ms (page_words (page_at l v))
+  pub log_writes : is_group n ≡ true → l.whole ≡ true → (v : ℕ) → WritesRight n ms (page_words (page_at l v))
   log_writes group whole v = by_entry (entry_at l (v + 1)) refl
     where
-      by_entry : (o : Option Entry) → entry_at l (v + 1) ≡ o → Writes-right n ms (page_words (page_after l v o))
+      by_entry : (o : Option Entry) → entry_at l (v + 1) ≡ o → WritesRight n ms (page_words (page_after l v o))
       by_entry None e =
           page_writes n ms group (a_closing (last_version l) l.place l.known) (s.place_bound, s.size)
           (sym (ap (λ a. length a.commits) (s.whole whole) ∙ last), sym (ap (λ a. a.known) (s.whole whole)))

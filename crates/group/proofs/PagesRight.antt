@@ -8,7 +8,7 @@ use Rattle.words.specs.Pages.{PageValue, an_entry, a_closing, page_words, valid_
 use Rattle.words.proofs.PageSpelling.{page_spelling}
 use Rattle.account.specs.Account.{a_commit, account_after, commits_of, commit_of, last_version}
 use Rattle.account.proofs.Horizons.{known_up_to_last}
-use Rattle.group.specs.Law.{PageRight, Writes-right}
+use Rattle.group.specs.Law.{PageRight, WritesRight}
 use Rattle.group.proofs.Accounts.{last_within, commit_well_made}
 use Rattle.group.proofs.Leasts.{up_to_every}
 
@@ -34,5 +34,5 @@ module _ (n : ℕ) (ms : List (List ℕ)) (group : is_group n ≡ true) where
       and_from _ _ group (and_from _ _ (eq-eqb (length ks) n f.1)
       (and_from _ _ (and_from _ _ (le-leb v d low) (lt-ltb d 268435456 (omega (arith, f.0)))) known))
 
-  pub page_writes : (p : PageValue) → PageFits n p → PageRight n ms p → Writes-right n ms (page_words p)
+  pub page_writes : (p : PageValue) → PageFits n p → PageRight n ms p → WritesRight n ms (page_words p)
   page_writes p f e = record { page = p; reads = (page_spelling n (page_words p) p).1 refl (page_valid p f e); right = e }

@@ -13,7 +13,7 @@ use Rattle.site.specs.SiteModel.{SiteModel}
 use Rattle.site.specs.Making.{is_zero, is_fresh_store, is_fresh_log, can_make, new_site}
 use Rattle.site.specs.Calls.{Call, called}
 use Rattle.group.specs.Record.{Turn, a_turn, deed_of}
-use Rattle.group.specs.Law.{Turn-right, RecordRight, LogRight}
+use Rattle.group.specs.Law.{TurnRight, RecordRight, LogRight}
 use Rattle.group.specs.Runs.{Fresh, Supposed, Run, starts, goes, RunLaw, Goes_on}
 use Rattle.group.proofs.LogSound.{log_starts, log_has}
 use Rattle.group.proofs.Turns.{OfSite}
@@ -64,12 +64,12 @@ module _ (ms : List (List ℕ)) (i : ℕ) (g : StoreModel) (l : LogModel) (can :
       }
 
 -- Site i of a group of n, sound by the record so far.
-pub record Sound-at (n : ℕ) (ms : List (List ℕ)) (ts : List Turn) (i : ℕ) (m : SiteModel) : Type 0 where
+pub record SoundAt (n : ℕ) (ms : List (List ℕ)) (ts : List Turn) (i : ℕ) (m : SiteModel) : Type 0 where
   pub number : m.number ≡ i
   pub sites : m.sites ≡ n
   pub sound : Sound ms ts m
 
-fresh_sound : (n : ℕ) (ms : List (List ℕ)) (i : ℕ) (m : SiteModel) → Fresh n i m → Sound-at n ms [] i m
+fresh_sound : (n : ℕ) (ms : List (List ℕ)) (i : ℕ) (m : SiteModel) → Fresh n i m → SoundAt n ms [] i m
 fresh_sound n ms i m f = record {
   number = ap (λ x. x.number) f.new;
   sites = ap (λ x. x.sites) f.new ∙ f.size;
@@ -77,13 +77,13 @@ fresh_sound n ms i m f = record {
 }
 
 -- All sites are sound, and the record is right.
-pub record Group-sound (n : ℕ) (ms : List (List ℕ)) (ss : List SiteModel) (ts : List Turn) : Type 0 where
-  pub each : (i : ℕ) (m : SiteModel) → slice_get ss i ≡ Some m → Sound-at n ms ts i m
+pub record GroupSound (n : ℕ) (ms : List (List ℕ)) (ss : List SiteModel) (ts : List Turn) : Type 0 where
+  pub each : (i : ℕ) (m : SiteModel) → slice_get ss i ≡ Some m → SoundAt n ms ts i m
   pub right : RecordRight n ms ts
 
-module _ (n : ℕ) (ms : List (List ℕ)) (ss : List SiteModel) (ts : List Turn) (g : Group-sound n ms ss ts) (i : ℕ) (m : SiteModel) (c : Call)
+module _ (n : ℕ) (ms : List (List ℕ)) (ss : List SiteModel) (ts : List Turn) (g : GroupSound n ms ss ts) (i : ℕ) (m : SiteModel) (c : Call)
     (at : slice_get ss i ≡ Some m) (given : Supposed ms ts (a_turn i c (called m c).0)) where
-  here : Sound-at n ms ts i m
+  here : SoundAt n ms ts i m
   here = g.each i m at
 
   abbrev turn : Turn
@@ -95,14 +95,14 @@ module _ (n : ℕ) (ms : List (List ℕ)) (ss : List SiteModel) (ts : List Turn)
   right_here : RecordRight m.sites ms ts
   right_here = subst (λ k. RecordRight k ms ts) (sym here.sites) g.right
 
-  after_here : Sound-at n ms (turn ∷ ts) i (called m c).1
+  after_here : SoundAt n ms (turn ∷ ts) i (called m c).1
   after_here = record {
     number = (called_placed m c).0 ∙ here.number;
     sites = (called_placed m c).1 ∙ here.sites;
     sound = subst (λ j. Sound ms (a_turn j c (called m c).0 ∷ ts) (called m c).1) here.number (kept here.sound right_here c given_here);
   }
 
-  after_elsewhere : (j : ℕ) (x : SiteModel) → (j ≡ i → ⊥) → slice_get ss j ≡ Some x → Sound-at n ms (turn ∷ ts) j x
+  after_elsewhere : (j : ℕ) (x : SiteModel) → (j ≡ i → ⊥) → slice_get ss j ≡ Some x → SoundAt n ms (turn ∷ ts) j x
   after_elsewhere j x apart e =
       let a = g.each j x e in
       record {
@@ -112,15 +112,15 @@ module _ (n : ℕ) (ms : List (List ℕ)) (ss : List SiteModel) (ts : List Turn)
             (subst (λ k. OfSite k (deed_of (called m c).0 c)) here.number (deed_site m c)) (λ p. apart (sym (p ∙ a.number)));
       }
 
-  turn_here : Turn-right n ms turn ts
+  turn_here : TurnRight n ms turn ts
   turn_here =
-      subst (λ k. Turn-right k ms turn ts) here.sites
-      (subst (λ j. Turn-right m.sites ms (a_turn j c (called m c).0) ts) here.number (turn_right here.sound c given_here))
+      subst (λ k. TurnRight k ms turn ts) here.sites
+      (subst (λ j. TurnRight m.sites ms (a_turn j c (called m c).0) ts) here.number (turn_right here.sound c given_here))
 
-  turn_sound : Group-sound n ms (set ss i (called m c).1) (a_turn i c (called m c).0 ∷ ts)
-  turn_sound = record { each = set_each (Sound-at n ms (turn ∷ ts)) ss i (called m c).1 after_elsewhere after_here; right = (turn_here, g.right) }
+  turn_sound : GroupSound n ms (set ss i (called m c).1) (a_turn i c (called m c).0 ∷ ts)
+  turn_sound = record { each = set_each (SoundAt n ms (turn ∷ ts)) ss i (called m c).1 after_elsewhere after_here; right = (turn_here, g.right) }
 
-pub run_sound : {n : ℕ} {ms : List (List ℕ)} {ss : List SiteModel} {ts : List Turn} → Run called n ms ss ts → Group-sound n ms ss ts
+pub run_sound : {n : ℕ} {ms : List (List ℕ)} {ss : List SiteModel} {ts : List Turn} → Run called n ms ss ts → GroupSound n ms ss ts
 run_sound {n} {ms} (starts f) = record { each = λ i m e. fresh_sound n ms i m (f.fresh i m e); right = tt }
 run_sound {n} {ms} (goes {ss} {ts} i m c r at given) = turn_sound n ms ss ts (run_sound r) i m c at given
 

@@ -11,7 +11,7 @@ use Rattle.site.specs.Slots.{SlotModel}
 use Rattle.site.specs.SiteModel.{SiteModel, with_store, with_log, with_mode, with_slots, with_change}
 use Rattle.site.specs.Calls.{Call, Answer, is_down, is_partial}
 use Rattle.group.specs.Record.{Turn, a_turn, nothing, deed, deed_of, seals, posted_as}
-use Rattle.group.proofs.LogSound.{Log-sound}
+use Rattle.group.proofs.LogSound.{LogSound}
 use Rattle.group.proofs.Turns.{Same, Misses, same_missed, OfSite, same_elsewhere, Unsealed, seals_same, seals_elsewhere}
 use Rattle.group.proofs.SlotsRight.{SlotsRight, slots_on}
 use Rattle.group.proofs.StoreRight.{StoreRight, ChangeRight, change_on}
@@ -34,7 +34,7 @@ SlotsBy ms m low us ss = SlotsRight m.sites (commits_of m.sites ms) m.number us 
 pub record Sound (ms : List (List ℕ)) (ts : List Turn) (m : SiteModel) : Type 0 where
   pub group : is_group m.sites ≡ true
   pub mine : m.number < m.sites
-  pub log : Log-sound m.sites ms m.log
+  pub log : LogSound m.sites ms m.log
   pub tickets : m.log.tickets ≤ 268435455
   pub under : m.log.floor ≤ m.store.version
   pub over : m.store.version ≤ last_version m.log
@@ -62,7 +62,7 @@ module _ {ms : List (List ℕ)} {ts : List Turn} {m : SiteModel} (s : Sound ms t
   }
 
   -- another log, whose last version is not lower, and another mode
-  pub sound_log : (l : LogModel) (k : Mode) → Log-sound m.sites ms l → l.tickets ≡ m.log.tickets → l.floor ≤ m.store.version →
+  pub sound_log : (l : LogModel) (k : Mode) → LogSound m.sites ms l → l.tickets ≡ m.log.tickets → l.floor ≤ m.store.version →
       last_version m.log ≤ last_version l → Fits k l.whole → Sound ms ts (with_mode (with_log m l) k)
   sound_log l k g t f b z = record {
     group = s.group;

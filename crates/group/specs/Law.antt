@@ -37,7 +37,7 @@ pub record ToldRight (cs : List Committed) (h t s : ℕ) (l : List Write) (d : D
       (s < w) × ((c : Committed) × ((commit_of cs w ≡ Some c) × (meets c.writes l ≡ true))) × ClearBetween cs l s w
 
 -- A delivery: its place is decided as the account of the whole list decides it, and an edit is rightly told.
-pub record Decides-right (n : ℕ) (ms : List (List ℕ)) (place : ℕ) (ws : List ℕ) (d : Decision) : Type 0 where
+pub record DecidesRight (n : ℕ) (ms : List (List ℕ)) (place : ℕ) (ws : List ℕ) (d : Decision) : Type 0 where
   pub account : at_place (decisions n ms) place ≡ Some d
   pub edit : (h t s : ℕ) (l : List Write) → message_of n ws ≡ Some (an_edit h t s l) → ToldRight (commits_of n ms) h t s l d
 
@@ -65,23 +65,23 @@ abbrev pub PageRight : ℕ → List (List ℕ) → PageValue → Type 0
 PageRight n ms (an_entry h v t l) = commit_of (commits_of n ms) v ≡ Some (a_commit h t l)
 PageRight n ms (a_closing v d ks) = (v ≡ last_version (account_after n (take d ms))) × (ks ≡ (account_after n (take d ms)).known)
 
-pub record Writes-right (n : ℕ) (ms : List (List ℕ)) (ws : List ℕ) : Type 0 where
+pub record WritesRight (n : ℕ) (ms : List (List ℕ)) (ws : List ℕ) : Type 0 where
   pub page : PageValue
   pub reads : page_of n ws ≡ Some page
   pub right : PageRight n ms page
 
 -- One turn is right by the turns before it.
-pub record Turn-right (n : ℕ) (ms : List (List ℕ)) (t : Turn) (ts : List Turn) : Type 0 where
+pub record TurnRight (n : ℕ) (ms : List (List ℕ)) (t : Turn) (ts : List Turn) : Type 0 where
   pub reads : (h : Handle) (x : ℕ) (o : Option ℤ) → t.call ≡ Read h x → t.answer ≡ Value o → ReadsRight (commits_of n ms) h x o ts
   pub looks : (x : ℕ) (o : Option ℤ) → t.call ≡ Look x → t.answer ≡ Value o → o ≡ scene (commits_of n ms) (seals t.site ts) x
-  pub decides : (p : ℕ) (ws : List ℕ) (d : Decision) → t.call ≡ Deliver p ws → t.answer ≡ Told d → Decides-right n ms p ws d
+  pub decides : (p : ℕ) (ws : List ℕ) (d : Decision) → t.call ≡ Deliver p ws → t.answer ≡ Told d → DecidesRight n ms p ws d
   pub tells : (h : Handle) (d : Decision) → t.call ≡ Outcome h → t.answer ≡ Told d → OutcomeRight n (commits_of n ms) h d ts
   pub pends : (h : Handle) → t.call ≡ Outcome h → t.answer ≡ Pending → PendingRight h ts
-  pub pages : (v room : ℕ) (ws : List ℕ) → t.call ≡ Page v room → t.answer ≡ Wrote ws → Writes-right n ms ws
+  pub pages : (v room : ℕ) (ws : List ℕ) → t.call ≡ Page v room → t.answer ≡ Wrote ws → WritesRight n ms ws
 
 abbrev pub RecordRight : ℕ → List (List ℕ) → List Turn → Type 0
 RecordRight n ms [] = Unit {0}
-RecordRight n ms (t ∷ ts) = Turn-right n ms t ts × RecordRight n ms ts
+RecordRight n ms (t ∷ ts) = TurnRight n ms t ts × RecordRight n ms ts
 
 -- Every entry that a log answers is that version's commit: home, ticket and writes.
 abbrev pub LogRight : List Committed → LogModel → Type 0
