@@ -13,9 +13,9 @@ use Rattle.store.specs.Slots.{laid, link_to, Below, Apart, SlotNexts, SlotTops}
 use Rattle.store.specs.StoreModel.{every, at_most, matches, latest, value_in, pruned, pruned_to}
 use Rattle.store.specs.ChainsRow.{chains_sound}
 use Rattle.store.proofs.Marks.{marks_more, marks_all}
-use Rattle.store.specs.Places.{place_le, latest_below}
+use Rattle.store.proofs.Places.{place_le, latest_below}
 use Rattle.store.specs.RowChanges.{RowSound, row_pruned, pruned_sound}
-use Rattle.store.specs.SlotWalks.{laid_at, laid_long}
+use Rattle.store.proofs.SlotWalks.{laid_at, laid_long}
 use Rattle.store.proofs.SlotRows.{counting_below, counting_apart, closed_front, closed_behind, laid_set, apart_shuffled, below_shuffled, later_link, place_taken, slot_nexts_same, slot_tops_same}
 
 -- Records xs in slots os, with the links ns and the heads hs of the first n of them

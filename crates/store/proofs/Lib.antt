@@ -1,5 +1,9 @@
+pub mod Places
+pub mod Walks
 pub mod Marks
 pub mod Compact
+pub mod SlotWalks
 pub mod SlotRows
+pub mod ChainsRow
 pub mod ChainsChanges
 pub mod LawProofs

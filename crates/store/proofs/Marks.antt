@@ -4,7 +4,7 @@ use Rattle.std.proofs.lemmas.List.{take_more, take_more_set, take_all}
 use Rattle.store.specs.declared.records.Record.{Record}
 use Rattle.store.specs.Rows.{last_place, replaced, unmarked}
 use Rattle.store.specs.StoreModel.{matches, some, pruned}
-use Rattle.store.specs.Places.{some_after}
+use Rattle.store.proofs.Places.{some_after}
 
 length_replaced : (h : ℕ) (rs : List Record) → length (replaced h rs) ≡ length rs
 length_replaced h [] = refl

@@ -14,8 +14,8 @@ use Rattle.store.specs.Slots.{laid, link_to, Below, Apart, SlotNexts, SlotTops}
 use Rattle.store.specs.Links.{chain_at, in_chain}
 use Rattle.store.specs.StoreModel.{pruned}
 use Rattle.store.proofs.Marks.{unmarked_pruned}
-use Rattle.store.specs.Places.{place_agree}
-use Rattle.store.specs.SlotWalks.{laid_at, laid_long, link_apart}
+use Rattle.store.proofs.Places.{place_agree}
+use Rattle.store.proofs.SlotWalks.{laid_at, laid_long, link_apart}
 
 -- The slots below n, in order
 

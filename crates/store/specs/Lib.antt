@@ -8,7 +8,4 @@ pub mod Laws
 pub mod Known
 pub mod ChainsRow
 pub mod RowChanges
-pub mod SlotWalks
-pub mod Places
-pub mod Walks
 pub mod JournalRow

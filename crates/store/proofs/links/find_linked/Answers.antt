@@ -1,7 +1,7 @@
 use Rattle.std.proofs.Common.{◌-◌, ◌%◌, ◌<◌, length, sym, ◌∙◌, arith}
 use Rattle.store.specs.Links.{chain_at, in_chain}
-use Rattle.store.specs.Places.{place_le}
-use Rattle.store.specs.Walks.{walk_start, walk_found, walk_next, walk_end}
+use Rattle.store.proofs.Places.{place_le}
+use Rattle.store.proofs.Walks.{walk_start, walk_found, walk_next, walk_end}
 use Rattle.store.proofs.links.find_linked.Goals as goal
 
 pub loop-place-init : goal.loop-place-init

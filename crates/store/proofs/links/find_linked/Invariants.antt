@@ -1,5 +1,5 @@
 use Rattle.std.proofs.Common.{length}
-use Rattle.store.specs.Walks.{Walk}
+use Rattle.store.proofs.Walks.{Walk}
 use Rattle.store.proofs.links.find_linked.Given as goal
 
 abbrev pub invariant-loop-place : goal.invariant-loop-place

@@ -1,7 +1,7 @@
 use Rattle.std.proofs.Common.{◌<◌, arith}
 use Rattle.std.proofs.lemmas.List.{length-set}
 use Rattle.store.specs.Links.{chain_at}
-use Rattle.store.specs.Walks.{nexts_more, tops_more}
+use Rattle.store.proofs.Walks.{nexts_more, tops_more}
 use Rattle.store.proofs.links.link_up.Goals as goal
 
 pub loop-i-preserved : goal.loop-i-preserved

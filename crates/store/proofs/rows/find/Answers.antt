@@ -1,6 +1,6 @@
 use Rattle.std.proofs.Common.{true, false, sym, ◌∙◌, arith}
 use Rattle.store.specs.StoreModel.{matches}
-use Rattle.store.specs.Places.{place_down}
+use Rattle.store.proofs.Places.{place_down}
 use Rattle.store.proofs.rows.find.Goals as goal
 
 pub returns-then-is_match : goal.returns-then-is_match

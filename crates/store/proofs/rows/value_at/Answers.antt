@@ -1,6 +1,6 @@
 use Rattle.std.proofs.Common.{sym, ap, ◌∙◌, arith}
 use Rattle.store.specs.StoreModel.{value_in}
-use Rattle.store.specs.Places.{at_place_here}
+use Rattle.store.proofs.Places.{at_place_here}
 use Rattle.store.proofs.rows.value_at.Goals as goal
 
 pub returns : goal.returns

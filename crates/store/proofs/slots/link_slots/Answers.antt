@@ -2,7 +2,7 @@ use Rattle.std.proofs.Common.{◌%◌, ◌<◌, length, get_or, ap, ◌∙◌, a
 use Rattle.std.proofs.lemmas.List.{length-set}
 use Rattle.store.specs.Rows.{blank}
 use Rattle.store.specs.Slots.{laid}
-use Rattle.store.specs.SlotWalks.{laid_at, slot_nexts_more, slot_tops_more}
+use Rattle.store.proofs.SlotWalks.{laid_at, slot_nexts_more, slot_tops_more}
 use Rattle.store.proofs.slots.link_slots.Goals as goal
 
 pub loop-i-preserved : goal.loop-i-preserved

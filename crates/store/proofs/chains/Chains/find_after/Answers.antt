@@ -1,5 +1,5 @@
 use Rattle.std.proofs.Common.{sym, ◌∙◌}
-use Rattle.store.specs.ChainsRow.{find_start, find_found, find_next, find_less, find_end}
+use Rattle.store.proofs.ChainsRow.{find_start, find_found, find_next, find_less, find_end}
 use Rattle.store.proofs.chains.Chains.find_after.Goals as goal
 
 pub loop-link-init : goal.loop-link-init

@@ -1,5 +1,5 @@
 use Rattle.store.specs.ChainsModel.{chains_row}
-use Rattle.store.specs.SlotWalks.{Following, place_of}
+use Rattle.store.proofs.SlotWalks.{Following, place_of}
 use Rattle.store.proofs.chains.Chains.find_after.Given as goal
 
 abbrev pub invariant-loop-link : goal.invariant-loop-link

@@ -1,6 +1,6 @@
 use Rattle.std.proofs.Common.{◌≡◌, ◌+◌, ◌-◌, ◌<◌, length, get_or, sym, ap, ◌∙◌, arith}
 use Rattle.std.proofs.lemmas.List.{get_or_read}
-use Rattle.store.specs.SlotWalks.{link_here}
+use Rattle.store.proofs.SlotWalks.{link_here}
 use Rattle.store.proofs.chains.Chains.link_to.Goals.{After-index}
 use Rattle.store.proofs.chains.Chains.link_to.Goals as goal
 

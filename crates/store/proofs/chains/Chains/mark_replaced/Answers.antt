@@ -2,7 +2,7 @@ use Rattle.std.proofs.Common.{◌≡◌, ◌+◌, ◌-◌, ◌%◌, ◌<◌, len
 use Rattle.store.specs.ChainsModel.{chains_row}
 use Rattle.store.specs.Links.{chain_at}
 use Rattle.store.proofs.ChainsChanges.{mark_more, marks_done}
-use Rattle.store.specs.ChainsRow.{slot_inside, record_there}
+use Rattle.store.proofs.ChainsRow.{slot_inside, record_there}
 use Rattle.store.proofs.chains.Chains.mark_replaced.Goals as goal
 
 pub index-requires : goal.index-requires

@@ -3,7 +3,8 @@ use Rattle.words.specs.Writes.{a_write}
 use Rattle.store.specs.Rows.{row_model}
 use Rattle.store.specs.StoreModel.{a_record}
 use Rattle.store.proofs.ChainsChanges.{both_owed, staged_row, staged_chain}
-use Rattle.store.specs.ChainsRow.{chains_sound, slot_is, slot_inside}
+use Rattle.store.specs.ChainsRow.{chains_sound}
+use Rattle.store.proofs.ChainsRow.{slot_is, slot_inside}
 use Rattle.store.specs.RowChanges.{RowSound, row_full, row_open, row_staged, row_unstaged, staged_sound}
 use Rattle.store.proofs.chains.ops.ChainsStore.stage.Goals as goal
 

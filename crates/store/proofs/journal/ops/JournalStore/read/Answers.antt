@@ -1,6 +1,6 @@
 use Rattle.std.proofs.Common.{ap, ◌∙◌}
 use Rattle.store.specs.StoreModel.{matches, latest, value_in}
-use Rattle.store.specs.Places.{place_within, value_there}
+use Rattle.store.proofs.Places.{place_within, value_there}
 use Rattle.store.specs.RowChanges.{front_part}
 use Rattle.store.proofs.journal.ops.JournalStore.read.Goals as goal
 

@@ -7,7 +7,7 @@ use Rattle.store.specs.declared.records.Record.{Record}
 use Rattle.store.specs.Links.{chain_at, in_chain, Nexts, Tops}
 use Rattle.store.specs.Rows.{last_place}
 use Rattle.store.specs.StoreModel.{matches}
-use Rattle.store.specs.Places.{place_le, place_down, place_passes, place_through}
+use Rattle.store.proofs.Places.{place_le, place_down, place_passes, place_through}
 
 -- a record that is looked for stands in its item's chain
 matches_chain : (item at : ℕ) (r : Record) → matches item at r ≡ true → in_chain (item % 64) r ≡ true

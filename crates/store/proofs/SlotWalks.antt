@@ -8,8 +8,8 @@ use Rattle.store.specs.Links.{chain_at, in_chain}
 use Rattle.store.specs.Rows.{blank, last_place}
 use Rattle.store.specs.Slots.{laid, link_to, Apart, SlotNexts, SlotTops}
 use Rattle.store.specs.StoreModel.{matches}
-use Rattle.store.specs.Places.{place_le, place_least}
-use Rattle.store.specs.Walks.{Walk, walk_start, walk_found, walk_next}
+use Rattle.store.proofs.Places.{place_le, place_least}
+use Rattle.store.proofs.Walks.{Walk, walk_start, walk_found, walk_next}
 
 pub link_here : (os : List ℕ) (p : ℕ) → 0 < p → link_to os p ≡ slice_index os (p - 1) + 1
 link_here os zero h = absurd (omega arith)
