@@ -1,6 +1,6 @@
 -- The account of a list: from one place to the next, and what holds of every commit.
 use Rattle.std.proofs.Common.{◌≡◌, ℕ, zero, suc, ◌+◌, ◌≤◌, Bool, true, ◌&&◌, ltb, List, [], ◌∷◌, ◌++◌, length, take, drop, Some, None, Option, sym, refl, ap, ◌∙◌, add-one, arith, length-append, take-append-drop}
-use Rattle.std.specs.List.{slice_get, AllByRecursion as All}
+use Rattle.std.specs.List.{slice_get, AllByRecursion}
 use Rattle.std.proofs.lemmas.List.{length-take}
 use Rattle.std.proofs.ByRecursion.{All-append}
 use Rattle.std.proofs.lemmas.Bool.{and_parts, and_from}
@@ -60,7 +60,7 @@ module _ (n : ℕ) where
   well_made c = ltb c.home n && (in_range 1 c.ticket && valid_writes c.writes)
 
   abbrev WellMade : List Committed → Type 0
-  WellMade = All (λ c. well_made c ≡ true)
+  WellMade = AllByRecursion (λ c. well_made c ≡ true)
 
   added_well_made : (d : Decision) (o : Option MessageValue) (ws : List ℕ) → message_of n ws ≡ o → WellMade (added d o)
   added_well_made d None ws e = tt

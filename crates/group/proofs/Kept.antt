@@ -1,6 +1,6 @@
 -- A call, declined or carried out, leaves a sound site of the same number in the same group.
 use Rattle.std.proofs.Common.{◌≡◌, ℕ, List, [], ◌∷◌, is_some, Some, None, Option, refl}
-use Rattle.std.specs.List.{slice_get, ContainsAt as Has, AllByRecursion as All}
+use Rattle.std.specs.List.{slice_get, ContainsAt, AllByRecursion}
 use Rattle.std.proofs.ByRecursion.{all-has}
 use Rattle.std.proofs.lemmas.Bool.{cond_both}
 use Rattle.account.specs.declared.decisions.Decision.{Decision}
@@ -23,11 +23,11 @@ use Rattle.group.proofs.LogCalls.{deliver_kept, take_kept, trim_kept, prune_kept
 abbrev RightPage : ℕ → List (List ℕ) → Turn → Type 0
 RightPage n ms t = (v room : ℕ) (ws : List ℕ) → t.call ≡ Page v room → t.answer ≡ Wrote ws → WritesRight n ms ws
 
-right_pages : (n : ℕ) (ms : List (List ℕ)) (ts : List Turn) → RecordRight n ms ts → All (RightPage n ms) ts
+right_pages : (n : ℕ) (ms : List (List ℕ)) (ts : List Turn) → RecordRight n ms ts → AllByRecursion (RightPage n ms) ts
 right_pages n ms [] r = tt
 right_pages n ms (t ∷ ts) r = (r.0.pages, right_pages n ms ts r.1)
 
-page_written : (n : ℕ) (ms : List (List ℕ)) (ts : List Turn) (i v room : ℕ) (ws : List ℕ) → RecordRight n ms ts → Has ts (a_turn i (Page v room) (Wrote ws)) →
+page_written : (n : ℕ) (ms : List (List ℕ)) (ts : List Turn) (i v room : ℕ) (ws : List ℕ) → RecordRight n ms ts → ContainsAt ts (a_turn i (Page v room) (Wrote ws)) →
     WritesRight n ms ws
 page_written n ms ts i v room ws r h = all-has (RightPage n ms) ts (a_turn i (Page v room) (Wrote ws)) (right_pages n ms ts r) h v room ws refl refl
 

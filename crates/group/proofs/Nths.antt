@@ -1,6 +1,6 @@
 -- Lists read at a place.
 use Rattle.std.proofs.Common.{◌≡◌, ℕ, zero, suc, ◌+◌, List, [], ◌∷◌, ◌++◌, map, length, drop, Some, sym, ap, ◌∙◌, suc-add, zero-add, arith}
-use Rattle.std.specs.List.{slice_get, AllByRecursion as All}
+use Rattle.std.specs.List.{slice_get, AllByRecursion}
 use Rattle.account.proofs.Places.{nth_within, nth_front, nth_parts}
 
 module _ {X : Type 0} where
@@ -22,7 +22,7 @@ module _ {X : Type 0} where
   nth_map f (y ∷ xs) zero x e = let g : y ≡ x = cc in ap (λ z. Some (f z)) g
   nth_map f (y ∷ xs) (suc k) x e = nth_map f xs k x e
 
-  pub nth_all : (P : X → Type 0) (xs : List X) (k : ℕ) (x : X) → All P xs → slice_get xs k ≡ Some x → P x
+  pub nth_all : (P : X → Type 0) (xs : List X) (k : ℕ) (x : X) → AllByRecursion P xs → slice_get xs k ≡ Some x → P x
   nth_all P [] k x a e = absurd (let z : ◌≡◌ {A = ℕ} 0 1 = cc in omega arith)
   nth_all P (y ∷ xs) zero x a e = let f : y ≡ x = cc in rw f at a.0
   nth_all P (y ∷ xs) (suc k) x a e = nth_all P xs k x a.1 e

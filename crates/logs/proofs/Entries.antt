@@ -1,6 +1,6 @@
 -- The laws of every log.
 use Rattle.std.proofs.Common.{◌≡◌, ℕ, zero, suc, ◌+◌, ◌-◌, ◌<◌, ◌≤◌, min, max, List, [], ◌∷◌, ◌++◌, length, get_or, drop, Some, sym, refl, ap, ◌∙◌, ⊎_elim, arith}
-use Rattle.std.specs.List.{slice_get, ContainsAt as Has, AllByRecursion as All}
+use Rattle.std.specs.List.{slice_get, ContainsAt, AllByRecursion}
 use Rattle.std.proofs.lemmas.List.{length_push, length-drop, get_or_append_left}
 use Rattle.std.proofs.lemmas.Option.{slice_get-get_or}
 use Rattle.std.proofs.ByRecursion.{All-weaker}
@@ -90,7 +90,7 @@ numbers_rise m (Trim bound) = above_rises (held m) bound
 
 -- The least of numbers, of which there is one at least
 
-least_has : (k : ℕ) (ks : List ℕ) → Has (k ∷ ks) (least (k ∷ ks))
+least_has : (k : ℕ) (ks : List ℕ) → ContainsAt (k ∷ ks) (least (k ∷ ks))
 least_has k [] = (0, omega arith, λ d. refl)
 least_has k (j ∷ js) =
     let r = least_has j js in
@@ -99,12 +99,12 @@ least_has k (j ∷ js) =
     (λ (a : least (j ∷ js) ≤ k). let e : least (j ∷ js) ≡ min k (least (j ∷ js)) = omega arith in (suc r.0, omega (arith, r.1), λ d. r.2 d ∙ e))
     (cases_lt k (least (j ∷ js)))
 
-least_bounds : (k : ℕ) (ks : List ℕ) → All (λ x. least (k ∷ ks) ≤ x) (k ∷ ks)
+least_bounds : (k : ℕ) (ks : List ℕ) → AllByRecursion (λ x. least (k ∷ ks) ≤ x) (k ∷ ks)
 least_bounds k [] = (omega arith, tt)
 least_bounds k (j ∷ js) =
     (omega arith, All-weaker (λ x. least (j ∷ js) ≤ x) (λ x. min k (least (j ∷ js)) ≤ x) (λ x a. omega arith) (j ∷ js) (least_bounds j js))
 
-least_both : (ks : List ℕ) → 0 < length ks → Has ks (least ks) × All (λ x. least ks ≤ x) ks
+least_both : (ks : List ℕ) → 0 < length ks → ContainsAt ks (least ks) × AllByRecursion (λ x. least ks ≤ x) ks
 least_both [] h = absurd (omega arith)
 least_both (k ∷ ks) h = (least_has k ks, least_bounds k ks)
 

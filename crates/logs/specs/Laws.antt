@@ -1,6 +1,6 @@
 -- What holds of every log, whatever is called.
 use Rattle.std.specs.Prelude.{◌≡◌, ℕ, ◌<◌, ◌≤◌, List, Some}
-use Rattle.std.specs.List.{ContainsAt as Has, AllByRecursion as All}
+use Rattle.std.specs.List.{ContainsAt, AllByRecursion}
 use Rattle.logs.specs.LogModel.{Entry, LogModel, Bounded, last_version, entry_at, least, committed, copied, passed, noted, closed, ticketed, trimmed}
 
 -- A call that changes a log.
@@ -53,4 +53,4 @@ PlaceRises = (m : LogModel) (c : Call) → (is_close c → ⊥) → m.place ≤ 
 
 -- The least known number is one of the known numbers, and none is below it.
 abbrev pub LeastOfKnown : Type 0
-LeastOfKnown = (m : LogModel) → Bounded m → Has m.known (least m.known) × All (λ k. least m.known ≤ k) m.known
+LeastOfKnown = (m : LogModel) → Bounded m → ContainsAt m.known (least m.known) × AllByRecursion (λ k. least m.known ≤ k) m.known

@@ -1,6 +1,6 @@
 -- A play whose turns pass the test of what is supposed is a run.
 use Rattle.std.proofs.Common.{◌≡◌, ℕ, true, List, [], ◌∷◌, length, Some, None, Option, sym, refl, ap, ◌∙◌, subst, ⊎_elim}
-use Rattle.std.specs.List.{slice_get, ContainsAt as Has}
+use Rattle.std.specs.List.{slice_get, ContainsAt}
 use Rattle.std.proofs.lemmas.Bool.{and_parts, or_cases, false≢true}
 use Rattle.std.proofs.lemmas.Slice.Eq.{bytes_eq-Decides}
 use Rattle.std.proofs.ByRecursion.{has_append_left, has_append_right, has_push}
@@ -57,11 +57,11 @@ page_written ws i Wake a e = absurd (false≢true e)
 
 -- Such a turn stands in the record.
 abbrev Written : List ℕ → List Turn → Type 0
-Written ws ts = (i v room : ℕ) × Has ts (a_turn i (Page v room) (Wrote ws))
+Written ws ts = (i v room : ℕ) × ContainsAt ts (a_turn i (Page v room) (Wrote ws))
 
 written_now : (ws : List ℕ) (t : Turn) (ts : List Turn) → PageWritten ws t → Written ws (t ∷ ts)
 written_now ws t ts p =
-    (p.0, p.1, p.2, subst (λ (x : Turn). Has (t ∷ ts) x) p.3 (has_append_left (t ∷ []) ts t (has_push [] t)))
+    (p.0, p.1, p.2, subst (λ (x : Turn). ContainsAt (t ∷ ts) x) p.3 (has_append_left (t ∷ []) ts t (has_push [] t)))
 
 written_before : (ws : List ℕ) (t : Turn) (ts : List Turn) → Written ws ts → Written ws (t ∷ ts)
 written_before ws t ts p = (p.0, p.1, p.2, has_append_right (t ∷ []) ts _ p.3)

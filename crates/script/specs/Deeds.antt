@@ -1,5 +1,5 @@
 -- The calls at a site, by the words after the call's name.
-use Rattle.std.specs.Prelude.{ℕ, Bool, cond, List, Some, None, Ok, Err, Result}
+use Rattle.std.specs.Prelude.{ℕ, cond, List, Some, None, Ok, Result}
 use Rattle.script.specs.declared.faults.Fault.{Fault}
 use Rattle.script.specs.declared.verbs.Verb.{Verb}
 use Rattle.script.specs.declared.verbs.Verb.TheVariants as verb

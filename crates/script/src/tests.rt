@@ -49,7 +49,7 @@ fn a_write_has_its_numbers(rt: HostRuntime) -> Result<(), Fail> {
     let Deed::Write(name, item, change) = deed else {
         return Err(Fail::new("the line is no write"));
     };
-    assert!(rt; name == b"aB9" && site == 3 && item == 4_294_967_295);
+    assert!(rt; name == b"aB9".as_slice() && site == 3 && item == 4_294_967_295);
     match change {
         Change::Set(value) => {
             assert_eq!(rt; value, -2_147_483_648);
@@ -67,6 +67,6 @@ fn words_are_read(rt: HostRuntime) -> Result<(), Fail> {
     let Some(words) = read_words(rt.alloc(), text)? else {
         return Err(Fail::new("the text has no words"));
     };
-    assert!(rt; words.as_slice() == [0x6FFF_FFFF, 0x7000_0000]);
+    assert!(rt; words.as_slice() == [0x6FFF_FFFF, 0x7000_0000].as_slice());
     Ok(())
 }
