@@ -9,7 +9,7 @@ use text::numbers::hex_digits;
 use text::split::next_word;
 
 // The bytes of a word of a line that was understood, or of a word spelt: all are ASCII.
-fn put_bytes(line: &mut String, bytes: &[u8]) -> fmt::Result {
+fn put_bytes<W: Write>(line: &mut W, bytes: &[u8]) -> fmt::Result {
     for byte in bytes {
         line.write_char(*byte as char)?;
     }
@@ -17,7 +17,7 @@ fn put_bytes(line: &mut String, bytes: &[u8]) -> fmt::Result {
 }
 
 /// The words of a line, parted by single spaces.
-pub fn put_line(line: &mut String, text: &[u8]) -> fmt::Result {
+pub fn put_line<W: Write>(line: &mut W, text: &[u8]) -> fmt::Result {
     let (word, after) = next_word(text);
     put_bytes(line, word)?;
     let mut rest = after;
@@ -33,7 +33,7 @@ pub fn put_line(line: &mut String, text: &[u8]) -> fmt::Result {
 }
 
 // What was written, and its words.
-fn put_words(line: &mut String, what: &str, words: &[u32]) -> fmt::Result {
+fn put_words<W: Write>(line: &mut W, what: &str, words: &[u32]) -> fmt::Result {
     line.write_str(what)?;
     for word in words {
         line.write_str(" ")?;
@@ -64,14 +64,19 @@ fn done_name(deed: Deed) -> &'static str {
     }
 }
 
-fn put_value(line: &mut String, value: Option<i32>) -> fmt::Result {
+fn put_value<W: Write>(line: &mut W, value: Option<i32>) -> fmt::Result {
     match value {
         Some(value) => write!(line, "value {value}"),
         None => line.write_str("absent"),
     }
 }
 
-fn put_response(line: &mut String, deed: Deed, response: Response, out: &[u32]) -> fmt::Result {
+fn put_response<W: Write>(
+    line: &mut W,
+    deed: Deed,
+    response: Response,
+    out: &[u32],
+) -> fmt::Result {
     match response {
         Response::Declined(number) => write!(line, "declined {number}"),
         Response::Drafted(handle) => {
@@ -94,7 +99,7 @@ fn put_response(line: &mut String, deed: Deed, response: Response, out: &[u32]) 
     }
 }
 
-fn put_shown(line: &mut String, shown: &Shown) -> fmt::Result {
+fn put_shown<W: Write>(line: &mut W, shown: &Shown) -> fmt::Result {
     let mode = mode_name(shown.mode);
     let version = shown.version;
     let sealed = shown.sealed;
@@ -115,7 +120,7 @@ fn put_shown(line: &mut String, shown: &Shown) -> fmt::Result {
 }
 
 /// What a call at a site comes to.
-pub fn put_outcome(line: &mut String, deed: Deed, outcome: &Outcome) -> fmt::Result {
+pub fn put_outcome<W: Write>(line: &mut W, deed: Deed, outcome: &Outcome) -> fmt::Result {
     match outcome {
         Outcome::Heard(response, out) => put_response(line, deed, *response, out),
         Outcome::Seen(shown) => put_shown(line, shown),

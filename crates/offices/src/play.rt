@@ -6,6 +6,7 @@ use crate::answers::{put_line, put_outcome};
 use crate::calls::play_deed;
 use crate::reasons::Reason;
 use crate::stage::Stage;
+use anyhow::anyhow;
 use script::asks::{Ask, Source};
 use script::lines::parse_line;
 use script::parts::is_blank;
@@ -25,7 +26,7 @@ pub struct Line<'a> {
 // Says where a line stands that is not understood, and why; the answer is what the program ends with.
 fn fault(rt: &HostRuntime, number: u64, reason: Reason) -> anyhow::Result<anyhow::Error> {
     eprintln!(rt; "line {number}: {reason}")?;
-    Ok("the scenario is not understood".into())
+    Ok(anyhow!("the scenario is not understood"))
 }
 
 // Makes a site: the answer is added to what is printed.

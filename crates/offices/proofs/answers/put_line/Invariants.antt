@@ -2,4 +2,4 @@ use Rattle.std.proofs.Common.{length}
 use Rattle.offices.proofs.answers.put_line.Given as goal
 
 abbrev pub decreases-loop-word : goal.decreases-loop-word
-decreases-loop-word l = length l.rest
+decreases-loop-word g l = length l.rest
