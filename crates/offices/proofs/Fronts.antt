@@ -1,5 +1,5 @@
 -- A call that is handed the front of a buffer.
-use Rattle.std.proofs.Common.{◌≡◌, ℕ, zero, suc, List, [], ◌∷◌, ◌++◌, length, take, Option, sym, refl, ap, ◌∙◌, subst}
+use Rattle.std.proofs.Common.{◌≡◌, ℕ, List, [], ◌∷◌, ◌++◌, length, take, Option, sym, refl, ap, ◌∙◌, subst}
 use Rattle.site.specs.SiteModel.{SiteModel}
 use Rattle.site.specs.declared.calls.Request.{Request}
 use Rattle.site.specs.declared.calls.Response.{Response}

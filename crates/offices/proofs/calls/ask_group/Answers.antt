@@ -1,4 +1,4 @@
-use Rattle.std.proofs.Common.{◌≡◌, min, length, sym, ◌∙◌, rules}
+use Rattle.std.proofs.Common.{◌≡◌, min, length, rules}
 use Rattle.offices.proofs.Fronts.{lawful_front}
 use Rattle.offices.proofs.calls.ask_group.Goals as goal
 
