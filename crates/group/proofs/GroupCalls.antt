@@ -6,7 +6,7 @@ use Rattle.std.proofs.lemmas.Option.{slice_get_past, slice_get_read}
 use Rattle.site.specs.SiteModel.{SiteModel}
 use Rattle.site.specs.Calls.{Call, Answer, called}
 use Rattle.group.specs.Record.{a_turn}
-use Rattle.group.specs.Runs.{Goes_on}
+use Rattle.group.specs.Runs.{GoesOn}
 use Rattle.group.specs.Groups.{called_in, called_at}
 use Rattle.group.proofs.Nths.{nth_map}
 use Rattle.group.proofs.RunLaw.{goes_on}
@@ -30,8 +30,8 @@ module _ {C : Type 0} (model : C → SiteModel) (xs : List C) (i : ℕ) where
           ap (λ l. (Some a, l)) (map_set model xs i y) ∙ ap (λ (p : Answer × SiteModel). (Some p.0, set (map model xs) i p.1)) done
           ∙ ap (λ o. called_in (map model xs) i o c) (sym the_site)
 
-      pub one_goes_on : Goes_on (map model xs) (map model (set xs i y)) (a_turn i c a)
+      pub one_goes_on : GoesOn (map model xs) (map model (set xs i y)) (a_turn i c a)
       one_goes_on =
-          subst (λ l. Goes_on (map model xs) l (a_turn i c a)) (sym (map_set model xs i y))
-          (subst (λ (p : Answer × SiteModel). Goes_on (map model xs) (set (map model xs) i p.1) (a_turn i c p.0)) (sym done)
+          subst (λ l. GoesOn (map model xs) l (a_turn i c a)) (sym (map_set model xs i y))
+          (subst (λ (p : Answer × SiteModel). GoesOn (map model xs) (set (map model xs) i p.1) (a_turn i c p.0)) (sym done)
           (goes_on (map model xs) i (model x) c the_site))

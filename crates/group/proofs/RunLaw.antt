@@ -14,7 +14,7 @@ use Rattle.site.specs.Making.{is_zero, is_fresh_store, is_fresh_log, can_make, n
 use Rattle.site.specs.Calls.{Call, called}
 use Rattle.group.specs.Record.{Turn, a_turn, deed_of}
 use Rattle.group.specs.Law.{TurnRight, RecordRight, LogRight}
-use Rattle.group.specs.Runs.{Fresh, Supposed, Run, starts, goes, RunLaw, Goes_on}
+use Rattle.group.specs.Runs.{Fresh, Supposed, Run, starts, goes, RunLaw, GoesOn}
 use Rattle.group.proofs.LogSound.{log_starts, log_has}
 use Rattle.group.proofs.Turns.{OfSite}
 use Rattle.group.proofs.Tables.{set_each, replicate_each}
@@ -131,7 +131,7 @@ run_law n ms ss ts r =
 
 -- a turn of any run goes on with it, and the law holds
 pub goes_on : (before : List SiteModel) (i : ℕ) (m : SiteModel) (c : Call) → slice_get before i ≡ Some m →
-    Goes_on before (set before i (called m c).1) (a_turn i c (called m c).0)
+    GoesOn before (set before i (called m c).1) (a_turn i c (called m c).0)
 goes_on before i m c at n ms ts r given =
     let on = goes i m c r at given in
     let law = run_law n ms _ _ on in

@@ -10,7 +10,7 @@ use Rattle.site.specs.Calls.{Call, Answer, called, landed}
 use Rattle.site.specs.Spoken.{heard, is_new}
 use Rattle.group.specs.declared.group.Group.{Group}
 use Rattle.group.specs.Record.{a_turn}
-use Rattle.group.specs.Runs.{Run, Goes_on}
+use Rattle.group.specs.Runs.{Run, GoesOn}
 
 -- The models of the sites, by number.
 abbrev pub group_model : {C : Type 0} → (C → SiteModel) → Group C → List SiteModel
@@ -52,4 +52,4 @@ landed_in (Some a) out = landed a out
 -- The law goes on: with its turn, every run that led to the sites before leads to the sites after, and the record is right.
 abbrev pub Lawful : List SiteModel → List SiteModel → ℕ → Call → Option Answer → Type 0
 Lawful before after i c None = after ≡ before
-Lawful before after i c (Some a) = Goes_on before after (a_turn i c a)
+Lawful before after i c (Some a) = GoesOn before after (a_turn i c a)

@@ -52,6 +52,6 @@ abbrev pub RunLaw : Type 0
 RunLaw = Law called
 
 -- A turn goes on with every run that led to the sites before it: the run then leads to the sites after it, and the law holds.
-abbrev pub Goes_on : List SiteModel → List SiteModel → Turn → Type 0
-Goes_on before after t = (n : ℕ) (ms : List (List ℕ)) (ts : List Turn) → Run called n ms before ts → Supposed ms ts t →
+abbrev pub GoesOn : List SiteModel → List SiteModel → Turn → Type 0
+GoesOn before after t = (n : ℕ) (ms : List (List ℕ)) (ts : List Turn) → Run called n ms before ts → Supposed ms ts t →
     Run called n ms after (t ∷ ts) × RecordRight n ms (t ∷ ts) × LogsRight n ms after
