@@ -12,6 +12,8 @@ mod making;
 #[cfg(test)]
 mod modes;
 #[cfg(test)]
+mod moments;
+#[cfg(test)]
 mod pages;
 #[cfg(test)]
 mod pairs;

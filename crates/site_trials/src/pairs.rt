@@ -95,11 +95,12 @@ fn numbers<S: Store, L: Log>(store: &S, log: &L) -> [u32; 5] {
 // Makes the site and takes the turns at it; or it is declined, and the store and the log come back.
 fn drive<S: Store + Drop, L: Log + Drop>(
     rt: &impl Abort,
+    pair: &'static str,
     making: Making,
     store: S,
     log: L,
     turns: &[Turn],
-) -> Result<(), Fail> {
+) {
     let mut store = store;
     let mut log = log;
     spoil(&mut store, &mut log, making.before);
@@ -107,13 +108,12 @@ fn drive<S: Store + Drop, L: Log + Drop>(
     match Site::new(making.number, store, log) {
         Ok(site) => {
             let mut site = site;
-            assert_eq!(rt; making.refusal, None);
-            play(rt, &mut site, turns)
+            assert_eq!(rt; making.refusal, None, "{pair}");
+            play(rt, pair, &mut site, turns)
         }
         Err(back) => {
-            assert_eq!(rt; Some(back.refusal.number()), making.refusal);
-            assert_eq!(rt; numbers(&back.store, &back.log), was);
-            Ok(())
+            assert_eq!(rt; Some(back.refusal.number()), making.refusal, "{pair}");
+            assert_eq!(rt; numbers(&back.store, &back.log), was, "{pair}");
         }
     }
 }
@@ -128,9 +128,24 @@ pub(crate) fn made_on_both(
     turns: &[Turn],
 ) -> Result<(), Fail> {
     let store = journal(heap, records)?;
-    drive(rt, making, store, flat(heap, entries)?, turns).note("journal and flat")?;
+    drive(
+        rt,
+        "journal and flat",
+        making,
+        store,
+        flat(heap, entries)?,
+        turns,
+    );
     let store = chains(heap, records)?;
-    drive(rt, making, store, packed(heap, entries)?, turns).note("chains and packed")
+    drive(
+        rt,
+        "chains and packed",
+        making,
+        store,
+        packed(heap, entries)?,
+        turns,
+    );
+    Ok(())
 }
 
 // Takes the turns at site 0 over both pairs.

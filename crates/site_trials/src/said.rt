@@ -1,4 +1,5 @@
 // What a call answers, compared with what it has to answer.
+use crate::moments::Moment;
 use account::decisions::Decision;
 use site::calls::Response;
 use site::handles::Handle;
@@ -75,13 +76,13 @@ fn word(response: Response) -> &'static str {
     }
 }
 
-pub(crate) fn check_same(rt: &impl Abort, answer: Response, expected: Response) {
-    assert_eq!(rt; declined(answer), declined(expected));
-    assert_eq!(rt; value(answer), value(expected));
-    assert_eq!(rt; written(answer), written(expected));
-    assert_eq!(rt; handle(answer), handle(expected));
-    assert_eq!(rt; told(answer), told(expected));
-    assert_eq!(rt; woken(answer), woken(expected));
-    assert_eq!(rt; stepped(answer), stepped(expected));
-    assert_eq!(rt; word(answer), word(expected));
+pub(crate) fn check_same(rt: &impl Abort, moment: Moment, answer: Response, expected: Response) {
+    assert_eq!(rt; declined(answer), declined(expected), "{moment}");
+    assert_eq!(rt; value(answer), value(expected), "{moment}");
+    assert_eq!(rt; written(answer), written(expected), "{moment}");
+    assert_eq!(rt; handle(answer), handle(expected), "{moment}");
+    assert_eq!(rt; told(answer), told(expected), "{moment}");
+    assert_eq!(rt; woken(answer), woken(expected), "{moment}");
+    assert_eq!(rt; stepped(answer), stepped(expected), "{moment}");
+    assert_eq!(rt; word(answer), word(expected), "{moment}");
 }

@@ -1,4 +1,5 @@
 // What can be seen of a site without changing it.
+use crate::moments::Moment;
 use crate::said::{ROOM, value};
 use site::calls::{Calls, Request, Shown};
 use site::handles::Handle;
@@ -71,16 +72,16 @@ fn numbers(shown: Shown) -> [u32; 7] {
     ]
 }
 
-fn check_shown(rt: &impl Abort, before: Shown, after: Shown) {
-    assert_eq!(rt; after.mode, before.mode);
-    assert_eq!(rt; numbers(after), numbers(before));
-    assert_eq!(rt; after.known, before.known);
-    assert_eq!(rt; after.sites, before.sites);
+fn check_shown(rt: &impl Abort, moment: Moment, before: Shown, after: Shown) {
+    assert_eq!(rt; after.mode, before.mode, "{moment}");
+    assert_eq!(rt; numbers(after), numbers(before), "{moment}");
+    assert_eq!(rt; after.known, before.known, "{moment}");
+    assert_eq!(rt; after.sites, before.sites, "{moment}");
 }
 
-pub(crate) fn check_seen(rt: &impl Abort, before: Seen, after: Seen) {
-    check_shown(rt, before.shown, after.shown);
-    assert_eq!(rt; after.looks, before.looks);
-    assert_eq!(rt; after.first, before.first);
-    assert_eq!(rt; after.second, before.second);
+pub(crate) fn check_seen(rt: &impl Abort, moment: Moment, before: Seen, after: Seen) {
+    check_shown(rt, moment, before.shown, after.shown);
+    assert_eq!(rt; after.looks, before.looks, "{moment}");
+    assert_eq!(rt; after.first, before.first, "{moment}");
+    assert_eq!(rt; after.second, before.second, "{moment}");
 }
