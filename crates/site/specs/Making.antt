@@ -34,8 +34,8 @@ pub data Making (S L : Type 0) : Type 0 where
   handed_back : ℕ → S → L → Making S L
 
 abbrev pub making : {S L : Type 0} → (S → StoreModel) → (L → LogModel) → Result (Site S L) (NotMade S L) → Making S L
-making store_of log-of (Ok s) = made (site_model store_of log-of s)
-making store_of log-of (Err e) = handed_back (refusal_number e.refusal) e.store e.log
+making store_of log_of (Ok s) = made (site_model store_of log_of s)
+making store_of log_of (Err e) = handed_back (refusal_number e.refusal) e.store e.log
 
 abbrev pub made_of : {S L : Type 0} → (S → StoreModel) → (L → LogModel) → ℕ → S → L → Making S L
-made_of store_of log-of i s l = cond (can_make i (store_of s) (log-of l)) (made (new_site i (store_of s) (log-of l))) (handed_back 20 s l)
+made_of store_of log_of i s l = cond (can_make i (store_of s) (log_of l)) (made (new_site i (store_of s) (log_of l))) (handed_back 20 s l)

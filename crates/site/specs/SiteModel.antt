@@ -21,8 +21,8 @@ abbrev pub a_site : ℕ → ℕ → StoreModel → LogModel → Mode → List Sl
 a_site i n s l m ss c = record { number = i; sites = n; store = s; log = l; mode = m; slots = ss; change = c }
 
 abbrev pub site_model : {S L : Type 0} → (S → StoreModel) → (L → LogModel) → Site S L → SiteModel
-site_model store_of log-of s =
-    a_site s.home.number s.home.sites (store_of s.store) (log-of s.log) s.mode (slots_model s.slots) s.change
+site_model store_of log_of s =
+    a_site s.home.number s.home.sites (store_of s.store) (log_of s.log) s.mode (slots_model s.slots) s.change
 
 -- The same site with another store, log, mode, slots or change.
 abbrev pub with_store : SiteModel → StoreModel → SiteModel
