@@ -1,6 +1,7 @@
 -- Lemmas on words: each file cites only those above it.
 mod Shifts
 mod Fronts
+mod Every
 mod Rises
 mod Trials
 mod Counts

@@ -1,6 +1,8 @@
 // One word: its kind in the top four bits, its load in the low 28.
 ghost use Rattle.std.specs.Prelude.{◌≡◌, ◌^◌, ◌<◌, true};
-ghost use Rattle.words.specs.Bits.{kind_of, load_of, word, value_of, value_load, value_fits, site_of, count_of, clear_between, head, is_number, in_range, is_group};
+ghost use Rattle.words.specs.Bits.{kind_of, load_of, word, value_of, value_load, value_fits, site_of, count_of, clear_between, head, is_number, in_range};
+
+use crate::limits::LIMIT;
 
 pub(crate) const EDIT: u32 = 1;
 
@@ -30,21 +32,22 @@ pub(crate) fn kind(word: u32) -> u32
     word >> 28
 }
 
-pub(crate) fn load(word: u32) -> u32
+/// The number in a word's low 28 bits.
+pub fn load(word: u32) -> u32
     ensures { result ≡ load_of word }
 {
     word & 0x0fff_ffff
 }
 
-// The site in a head's load bits 27 to 24.
-pub(crate) fn site(head: u32) -> u32
+/// The site in a head's load bits 27 to 24.
+pub fn site(head: u32) -> u32
     ensures { result ≡ site_of head }
 {
     (head >> 24) & 0xf
 }
 
-// The count in a head's bits 7 to 0.
-pub(crate) fn count(head: u32) -> u32
+/// The count in a head's bits 7 to 0.
+pub fn count(head: u32) -> u32
     ensures { result ≡ count_of head }
 {
     head & 0xff
@@ -68,14 +71,7 @@ pub(crate) fn is_kind(word: u32, of: u32, least: u32) -> bool
 pub(crate) fn fits(number: u32, least: u32) -> bool
     ensures { result ≡ in_range least number }
 {
-    least <= number && number < 0x1000_0000
-}
-
-// Whether a group has that many sites.
-pub(crate) fn is_size(sites: u32) -> bool
-    ensures { result ≡ is_group sites }
-{
-    2 <= sites && sites <= 8
+    least <= number && number <= LIMIT
 }
 
 // A load as a value: two's complement in 28 bits.

@@ -2,7 +2,7 @@
 ghost use Rattle.std.specs.Prelude.{◌≡◌, ◌+◌, true, is_some, IfOk, if◌then◌else◌};
 ghost use Rattle.words.specs.Writes.{change_of, first_write, after_write, leading, change_word, change_fits, write_fits, all_fit, fit_from, valid_writes};
 
-use crate::bits::{ITEM, REMOVAL, VALUE, is_value, kind, load, make_word, value, value_bits};
+use crate::bits::{ITEM, REMOVAL, VALUE, fits, is_value, kind, load, make_word, value, value_bits};
 use std::alloc::{AllocError, Global};
 
 #[derive(Clone, Copy, PartialEq, Eq, Debug)]
@@ -91,7 +91,7 @@ fn is_change(change: Change) -> bool
 fn is_write(write: Write, least: u32) -> bool
     ensures { result ≡ write_fits least write }
 {
-    least <= write.item && write.item < 0x1000_0000 && is_change(write.change)
+    fits(write.item, least) && is_change(write.change)
 }
 
 /// Whether item and value are in range.

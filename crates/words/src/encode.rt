@@ -1,5 +1,5 @@
 // Messages and pages, written as words from a buffer's first word on.
-ghost use Rattle.std.specs.Prelude.{◌≡◌, ◌*◌, ◌≤◌, true, ◌&&◌, ◌∷◌, ◌++◌, map, length, take, drop, IfOk, Some, nat_le, nat_lt};
+ghost use Rattle.std.specs.Prelude.{◌≡◌, ◌*◌, ◌≤◌, true, ◌&&◌, ◌∷◌, ◌++◌, map, length, take, drop, IfOk, Some, nat_lt};
 ghost use Rattle.words.specs.Bits.{word, every, in_range, is_group};
 ghost use Rattle.words.specs.Writes.{writes_words, fit_from, valid_writes};
 ghost use Rattle.words.specs.Messages.{message_words, valid_message, message_of};
@@ -7,10 +7,10 @@ ghost use Rattle.words.specs.Pages.{page_words, valid_page, page_of};
 ghost use Rattle.words.specs.Encoded.{refusal_number, reply, put_answer, put_after, edit_value, report_value, entry_value, closing_value};
 
 use crate::bits::{
-    CLOSING, EDIT, ENTRY, ITEM, KNOWN, PLACE, REPORT, TICKET, VERSION, fits, is_size, make_head,
-    make_word,
+    CLOSING, EDIT, ENTRY, ITEM, KNOWN, PLACE, REPORT, TICKET, VERSION, fits, make_head, make_word,
 };
 use crate::changes::{Write, are_valid, change_bits};
+use crate::limits::{are_within, is_group};
 
 /// Why no words were written: what was handed in is none of the group, or the buffer is too short for its words.
 #[derive(Clone, Copy, PartialEq, Eq, Debug)]
@@ -68,7 +68,7 @@ pub struct ClosingParts<'a> {
 fn is_site(site: u32, sites: u32) -> bool
     ensures { result ≡ (is_group sites && nat_lt site sites) }
 {
-    is_size(sites) && site < sites
+    is_group(sites) && site < sites
 }
 
 impl EditParts<'_> {
@@ -104,24 +104,12 @@ impl EntryParts<'_> {
     }
 }
 
-// Whether no number is above the limit.
-pub(crate) fn are_within(numbers: &[u32], limit: u32) -> bool
-    ensures { result ≡ every (λ k. nat_le k limit) numbers.now }
-{
-    for number in numbers {
-        if limit < *number {
-            return false;
-        }
-    }
-    true
-}
-
 impl ClosingParts<'_> {
     // Whether a group of `sites` sites has such a closing page.
     fn is_valid(self, sites: u32) -> bool
         ensures { result ≡ valid_page sites (closing_value self.entry) }
     {
-        is_size(sites)
+        is_group(sites)
             && self.known.len() == sites as usize
             && fits(self.place, self.version)
             && are_within(self.known, self.version)

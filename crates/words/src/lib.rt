@@ -3,10 +3,12 @@
 // The word format of Scene Share: messages and pages as 32-bit words, read and written.
 //
 // `changes` has the writes, `messages` and `pages` read what words say, `encode` writes them.
-// `bits` and `scan` are below these: the layout of one word, and a reader that goes through words.
-pub(crate) mod bits;
+// `bits`, `limits` and `scan` are below these: the layout of one word, how large numbers and groups are, and a reader that
+// goes through words.
+pub mod bits;
 pub mod changes;
 pub mod encode;
+pub mod limits;
 pub mod messages;
 pub mod pages;
 pub mod scan;

@@ -5,8 +5,9 @@ ghost use Rattle.words.specs.Writes.{heads};
 ghost use Rattle.words.specs.Messages.{message_words, valid_message, edit_fits, read_edit, report_fits, read_report, message_of, message_value, Borrowed, OneSpelling, message_kind};
 
 use crate::bits::{
-    EDIT, REPORT, TICKET, VERSION, count, is_clear_between, is_kind, is_size, kind, load, site,
+    EDIT, REPORT, TICKET, VERSION, count, is_clear_between, is_kind, kind, load, site,
 };
+use crate::limits::is_group;
 use crate::scan::holds_writes;
 
 /// A message read. The writes of an edit are that part of the words handed in.
@@ -96,7 +97,7 @@ pub fn read_message<'a>(words: &'a [u32], sites: u32) -> Option<Message<'a>>
     ensures borrowed { Borrowed words.entry result }
     ensures exact { OneSpelling message_words (valid_message sites) words.now (option_map message_value result) }
 {
-    if !is_size(sites) {
+    if !is_group(sites) {
         return None;
     }
     let [head, ..] = words else {

@@ -5,9 +5,8 @@ ghost use Rattle.words.specs.Bits.{every, load_of};
 ghost use Rattle.words.specs.Messages.{OneSpelling};
 ghost use Rattle.words.specs.Pages.{page_words, valid_page, entry_fits, read_entry, known_fits, closing_fits, read_closing, page_of, page_value, PageBorrowed};
 
-use crate::bits::{
-    CLOSING, ENTRY, KNOWN, PLACE, TICKET, VERSION, is_kind, is_size, kind, load, site,
-};
+use crate::bits::{CLOSING, ENTRY, KNOWN, PLACE, TICKET, VERSION, is_kind, kind, load, site};
+use crate::limits::is_group;
 use crate::messages::is_head_of;
 
 /// A page read. Writes and known numbers are that part of the words handed in, still as words.
@@ -114,7 +113,7 @@ pub fn read_page<'a>(words: &'a [u32], sites: u32) -> Option<Page<'a>>
     ensures borrowed { PageBorrowed words.entry result }
     ensures exact { OneSpelling page_words (valid_page sites) words.now (option_map page_value result) }
 {
-    if !is_size(sites) {
+    if !is_group(sites) {
         return None;
     }
     let [head, ..] = words else {

@@ -9,7 +9,8 @@ use crate::bits::{
     CLOSING, ENTRY, ITEM, KNOWN, PLACE, TICKET, VERSION, fits, make_head, make_word,
 };
 use crate::changes::{Write, all_fit, change_bits};
-use crate::encode::{ClosingParts, EntryParts, Refusal, are_within};
+use crate::encode::{ClosingParts, EntryParts, Refusal};
+use crate::limits::{LIMIT, are_within};
 
 impl EntryParts<'_> {
     // Whether words can hold its numbers.
@@ -32,7 +33,7 @@ impl ClosingParts<'_> {
         self.known.len() <= 8
             && fits(self.version, 0)
             && fits(self.place, 0)
-            && are_within(self.known, 0x0fff_ffff)
+            && are_within(self.known, LIMIT)
     }
 }
 
