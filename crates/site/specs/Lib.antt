@@ -1,4 +1,5 @@
 pub mod Modes
+pub mod Texts
 pub mod Edits
 pub mod Spelling
 pub mod Slots

@@ -1,5 +1,5 @@
 -- A site as its callers see it: requests and responses in numbers, with the caller's memory beside them.
-use Rattle.std.specs.Prelude.{◌≡◌, ℕ, Bool, not, ◌&&◌, List, length, take, is_some, ◌==◌}
+use Rattle.std.specs.Prelude.{◌≡◌, ℕ, Bool, not, ◌&&◌, List, length, take, is_some, Ok, Err, Result, ◌==◌}
 use Rattle.store.specs.StoreModel.{Bounded as StoreBounded}
 use Rattle.logs.specs.LogModel.{last_version, Bounded as LogBounded}
 use Rattle.site.specs.declared.calls.Request.{Request}
@@ -8,10 +8,12 @@ use Rattle.site.specs.declared.calls.Response.{Response}
 use Rattle.site.specs.declared.calls.Response.TheVariants as response
 use Rattle.site.specs.declared.calls.Shown.{Shown}
 use Rattle.site.specs.declared.modes.Mode.{Mode}
+use Rattle.site.specs.declared.refusals.Refusal.{Refusal}
+use Rattle.site.specs.Modes.{refusal_number}
 use Rattle.site.specs.Slots.{all_empty}
 use Rattle.site.specs.SiteModel.{SiteModel}
 use Rattle.site.specs.Making.{is_fresh_store, is_fresh_log}
-use Rattle.site.specs.Calls.{Call, Begin, Read, Look, Put, Post, GiveUp, Outcome, LetGo, Deliver, Step, Report, Page, Take, Trim, Prune, Crash, Wake, Answer, Declined, Drafted, Value, Done, ReadOnly, Sent, Pending, Told, Opened, Staged, Sealed, Idle, Wrote, Woken, is_whole, landed}
+use Rattle.site.specs.Calls.{Call, Begin, Read, Look, Put, Post, GiveUp, Outcome, LetGo, Deliver, Step, Report, Page, Take, Trim, Prune, Crash, Wake, Answer, Declined, Drafted, Value, Done, ReadOnly, Sent, Pending, Told, Wrote, Woken, is_whole, step_answer, landed}
 
 -- The call that a request is, with the words handed in and the room of the buffer.
 abbrev pub asked : Request → List ℕ → ℕ → Call
@@ -33,30 +35,22 @@ asked request.Prune ws room = Prune
 asked request.Crash ws room = Crash
 asked request.Wake ws room = Wake
 
--- The answer that a response is, with the buffer as it is afterwards: words that were written stand at its front.
-abbrev pub heard : Response → List ℕ → Answer
-heard (response.Declined n) out = Declined n
-heard (response.Drafted h) out = Drafted h
-heard (response.Value o) out = Value o
-heard response.Done out = Done
-heard response.ReadOnly out = ReadOnly
-heard (response.Sent h n) out = Sent h (take n out)
-heard response.Pending out = Pending
-heard (response.Told d) out = Told d
-heard response.Opened out = Opened
-heard response.Staged out = Staged
-heard response.Sealed out = Sealed
-heard response.Idle out = Idle
-heard (response.Wrote n) out = Wrote (take n out)
-heard (response.Woken k) out = Woken k
-
--- A response that writes no words is that answer, and leaves any buffer.
-pub record Says (r : Response) (a : Answer) : Type 0 where
-  pub is : (out : List ℕ) → heard r out ≡ a
-  pub silent : (out : List ℕ) → landed a out ≡ out
+-- The answer that a response or a refusal is, with the buffer as it is afterwards: words that were written stand at its front.
+abbrev pub heard : Result Response Refusal → List ℕ → Answer
+heard (Err e) out = Declined (refusal_number e)
+heard (Ok (response.Drafted h)) out = Drafted h
+heard (Ok (response.Value o)) out = Value o
+heard (Ok response.Done) out = Done
+heard (Ok response.ReadOnly) out = ReadOnly
+heard (Ok (response.Sent h n)) out = Sent h (take n out)
+heard (Ok response.Pending) out = Pending
+heard (Ok (response.Told d)) out = Told d
+heard (Ok (response.Stepped s)) out = step_answer s
+heard (Ok (response.Wrote n)) out = Wrote (take n out)
+heard (Ok (response.Woken k)) out = Woken k
 
 -- A call that writes no words: what it answers and leaves, with any buffer left as it was.
-pub record Spoken (r : Response) (m : SiteModel) (p : Answer × SiteModel) : Type 0 where
+pub record Spoken (r : Result Response Refusal) (m : SiteModel) (p : Answer × SiteModel) : Type 0 where
   pub is : (out : List ℕ) → ◌≡◌ {A = Answer × SiteModel} (heard r out, m) p
   pub silent : (out : List ℕ) → landed p.0 out ≡ out
 

@@ -1,9 +1,8 @@
 // A site as its callers see it: by its model only, whatever its store and its log are.
-ghost use Rattle.std.specs.Prelude.{◌≡◌, ℕ, List, length};
+ghost use Rattle.std.specs.Prelude.{◌≡◌, length};
 ghost use Rattle.site.specs.SiteModel.{SiteModel, site_model};
-ghost use Rattle.site.specs.Calls.{called, told, landed, step_answer, reporting, Done, Drafted, Value, Told, Woken, Read, Put, Post, Outcome};
-ghost use Rattle.site.specs.Handles.{draft_handle};
-ghost use Rattle.site.specs.Spoken.{asked, heard, Says, Spoken, shown, shown_as, is_new, Bounded};
+ghost use Rattle.site.specs.Calls.{called, landed, Read, Put, Post, Outcome};
+ghost use Rattle.site.specs.Spoken.{asked, heard, Spoken, shown, shown_as, is_new, Bounded};
 ghost use Rattle.site.specs.SiteBounds.{site_bounded};
 
 use crate::gather::known_of;
@@ -41,10 +40,9 @@ pub enum Request {
     Wake,
 }
 
-/// An answer in numbers. Words that were written stand at the buffer's front; the answer says how many.
+/// What a call that is carried out answers. Words that were written stand at the buffer's front; the answer says how many.
 #[derive(Clone, Copy)]
 pub enum Response {
-    Declined(u32),
     Drafted(Handle),
     Value(Option<i32>),
     Done,
@@ -52,10 +50,7 @@ pub enum Response {
     Sent(Handle, usize),
     Pending,
     Told(Decision),
-    Opened,
-    Staged,
-    Sealed,
-    Idle,
+    Stepped(Stepped),
     Wrote(usize),
     Woken(Mode),
 }
@@ -89,125 +84,65 @@ pub trait Calls {
         ensures { shown_as result ≡ shown (model self.now) };
 
     /// One call, whichever it is: declined by the first line of its table that applies, or carried out.
-    fn call(&mut self, request: Request, words: &[u32], out: &mut [u32]) -> Response
+    fn call(
+        &mut self,
+        request: Request,
+        words: &[u32],
+        out: &mut [u32],
+    ) -> Result<Response, Refusal>
         ensures answered { (heard result out.new, model self.new) ≡ called (model self.old) (asked request words.now (length out.old)) }
         ensures buffer { out.new ≡ landed (heard result out.new) out.old };
 
     ghost bounded: { (s : Self) → Bounded (model s) };
 }
 
-fn drafted(res: Result<Draft, Refusal>) -> Response
-    ensures { Says result (told (λ d. Drafted (draft_handle d)) res) }
-{
-    match res {
-        Ok(draft) => Response::Drafted(draft.into_handle()),
-        Err(refusal) => Response::Declined(refusal.number()),
-    }
-}
-
-fn valued(res: Result<Option<i32>, Refusal>) -> Response
-    ensures { Says result (told Value res) }
-{
-    match res {
-        Ok(value) => Response::Value(value),
-        Err(refusal) => Response::Declined(refusal.number()),
-    }
-}
-
-fn done(res: Result<(), Refusal>) -> Response
-    ensures { Says result (told (λ _. Done) res) }
-{
-    match res {
-        Ok(()) => Response::Done,
-        Err(refusal) => Response::Declined(refusal.number()),
-    }
-}
-
-fn decided(res: Result<Decision, Refusal>) -> Response
-    ensures { Says result (told Told res) }
-{
-    match res {
-        Ok(decision) => Response::Told(decision),
-        Err(refusal) => Response::Declined(refusal.number()),
-    }
-}
-
-fn stepped(res: Result<Stepped, Refusal>) -> Response
-    ensures { Says result (told step_answer res) }
-{
-    match res {
-        Ok(Stepped::Opened) => Response::Opened,
-        Ok(Stepped::Staged) => Response::Staged,
-        Ok(Stepped::Sealed) => Response::Sealed,
-        Ok(Stepped::Idle) => Response::Idle,
-        Err(refusal) => Response::Declined(refusal.number()),
-    }
-}
-
-fn woken(res: Result<Mode, Refusal>) -> Response
-    ensures { Says result (told Woken res) }
-{
-    match res {
-        Ok(mode) => Response::Woken(mode),
-        Err(refusal) => Response::Declined(refusal.number()),
-    }
-}
-
-fn wrote(res: Result<usize, Refusal>) -> Response
-    ensures { (out : List ℕ) → heard result out ≡ reporting out res }
-{
-    match res {
-        Ok(count) => Response::Wrote(count),
-        Err(refusal) => Response::Declined(refusal.number()),
-    }
-}
-
 // Calls of a draft or a posted edit, by the numbers of its handle.
 impl<S: Store, L: Log> Site<S, L> {
-    fn read_by(&self, handle: Handle, item: u32) -> Response
+    fn read_by(&self, handle: Handle, item: u32) -> Result<Response, Refusal>
         ensures { Spoken result (site_model S.Store.model L.Log.model self.now) (called (site_model S.Store.model L.Log.model self.now) (Read handle item)) }
     {
         let draft = Draft::of(handle);
-        let result = self.read(&draft, item);
+        let read = self.read(&draft, item);
         draft.into_handle();
-        valued(result)
+        Ok(Response::Value(read?))
     }
 
-    fn put_by(&mut self, handle: Handle, write: Write) -> Response
+    fn put_by(&mut self, handle: Handle, write: Write) -> Result<Response, Refusal>
         ensures { Spoken result (site_model S.Store.model L.Log.model self.new) (called (site_model S.Store.model L.Log.model self.old) (Put handle write)) }
     {
         let draft = Draft::of(handle);
-        let result = self.write(&draft, write);
+        let written = self.write(&draft, write);
         draft.into_handle();
-        done(result)
+        written?;
+        Ok(Response::Done)
     }
 
-    fn outcome_by(&mut self, handle: Handle) -> Response
+    fn outcome_by(&mut self, handle: Handle) -> Result<Response, Refusal>
         ensures { Spoken result (site_model S.Store.model L.Log.model self.new) (called (site_model S.Store.model L.Log.model self.old) (Outcome handle)) }
     {
         match self.outcome(Posted::of(handle)) {
-            Ok(Answered::Decided(decision)) => Response::Told(decision),
+            Ok(Answered::Decided(decision)) => Ok(Response::Told(decision)),
             Ok(Answered::Pending(posted)) => {
                 posted.into_handle();
-                Response::Pending
+                Ok(Response::Pending)
             }
             Err((refusal, posted)) => {
                 posted.into_handle();
-                Response::Declined(refusal.number())
+                Err(refusal)
             }
         }
     }
 
-    fn post_by(&mut self, handle: Handle, out: &mut [u32]) -> Response
+    fn post_by(&mut self, handle: Handle, out: &mut [u32]) -> Result<Response, Refusal>
         ensures answered { (heard result out.new, site_model S.Store.model L.Log.model self.new) ≡ called (site_model S.Store.model L.Log.model self.old) (Post handle (length out.old)) }
         ensures buffer { out.new ≡ landed (heard result out.new) out.old }
     {
         match self.post(Draft::of(handle), out) {
-            Ok(Sent::ReadOnly) => Response::ReadOnly,
-            Ok(Sent::Words(posted, count)) => Response::Sent(posted.into_handle(), count),
+            Ok(Sent::ReadOnly) => Ok(Response::ReadOnly),
+            Ok(Sent::Words(posted, count)) => Ok(Response::Sent(posted.into_handle(), count)),
             Err((refusal, draft)) => {
                 draft.into_handle();
-                Response::Declined(refusal.number())
+                Err(refusal)
             }
         }
     }
@@ -238,31 +173,48 @@ impl<S: Store, L: Log> Calls for Site<S, L> {
         }
     }
 
-    fn call(&mut self, request: Request, words: &[u32], out: &mut [u32]) -> Response {
-        match request {
-            Request::Begin => drafted(self.begin()),
-            Request::Read(draft, item) => self.read_by(draft, item),
-            Request::Look(item) => valued(self.look(item)),
-            Request::Put(draft, write) => self.put_by(draft, write),
-            Request::Post(draft) => self.post_by(draft, out),
+    fn call(
+        &mut self,
+        request: Request,
+        words: &[u32],
+        out: &mut [u32],
+    ) -> Result<Response, Refusal> {
+        Ok(match request {
+            Request::Begin => Response::Drafted(self.begin()?.into_handle()),
+            Request::Read(draft, item) => self.read_by(draft, item)?,
+            Request::Look(item) => Response::Value(self.look(item)?),
+            Request::Put(draft, write) => self.put_by(draft, write)?,
+            Request::Post(draft) => self.post_by(draft, out)?,
             Request::GiveUp(draft) => {
                 self.give_up(Draft::of(draft));
                 Response::Done
             }
-            Request::Outcome(posted) => self.outcome_by(posted),
+            Request::Outcome(posted) => self.outcome_by(posted)?,
             Request::LetGo(posted) => {
                 self.let_go(Posted::of(posted));
                 Response::Done
             }
-            Request::Deliver(place) => decided(self.deliver(place, words)),
-            Request::Step => stepped(self.step()),
-            Request::Report => wrote(self.report(out)),
-            Request::Page(version) => wrote(self.page(version, out)),
-            Request::Take => done(self.take(words)),
-            Request::Trim => done(self.trim()),
-            Request::Prune => done(self.prune()),
-            Request::Crash => done(self.crash()),
-            Request::Wake => woken(self.wake()),
-        }
+            Request::Deliver(place) => Response::Told(self.deliver(place, words)?),
+            Request::Step => Response::Stepped(self.step()?),
+            Request::Report => Response::Wrote(self.report(out)?),
+            Request::Page(version) => Response::Wrote(self.page(version, out)?),
+            Request::Take => {
+                self.take(words)?;
+                Response::Done
+            }
+            Request::Trim => {
+                self.trim()?;
+                Response::Done
+            }
+            Request::Prune => {
+                self.prune()?;
+                Response::Done
+            }
+            Request::Crash => {
+                self.crash()?;
+                Response::Done
+            }
+            Request::Wake => Response::Woken(self.wake()?),
+        })
     }
 }

@@ -1,8 +1,10 @@
 // What a site does depends on its mode and the call together.
-ghost use Rattle.std.specs.Prelude.{◌≡◌};
+ghost use Rattle.std.specs.Prelude.{◌≡◌, Some};
 ghost use Rattle.site.specs.Modes.{admitted, admission};
+ghost use Rattle.site.specs.Texts.{mode_text};
 
 use crate::refusals::Refusal;
+use std::fmt;
 
 /// Whole: all is known up to the site's place. Partial: entries were copied and no closing page came yet. Down: without power.
 #[derive(Clone, Copy, PartialEq, Eq, Debug)]
@@ -10,6 +12,18 @@ pub enum Mode {
     Whole,
     Partial,
     Down,
+}
+
+impl fmt::Display for Mode {
+    ghost output = { λ m. Some (mode_text m) };
+
+    fn fmt<W: fmt::Write>(&self, f: &mut fmt::Formatter<W>) -> fmt::Result {
+        match *self {
+            Mode::Whole => f.write_str("whole"),
+            Mode::Partial => f.write_str("partial"),
+            Mode::Down => f.write_str("down"),
+        }
+    }
 }
 
 /// A call, as far as the mode has a say in it. Waking brings the log's mark.

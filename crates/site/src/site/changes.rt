@@ -3,12 +3,14 @@ ghost use Rattle.std.specs.Prelude.{◌≡◌, length, Some, None, nat_lt};
 ghost use Rattle.store.specs.StoreModel.{space};
 ghost use Rattle.logs.specs.LogModel.{entry_at};
 ghost use Rattle.site.specs.SiteModel.{site_model};
+ghost use Rattle.site.specs.Texts.{step_text};
 ghost use Rattle.site.specs.Calls.{called, told, writes_in, stepped, opening, step_answer, Step};
 
 use super::Site;
 use crate::modes::{Event, admit};
 use crate::refusals::Refusal;
 use logs::api::Log;
+use std::fmt;
 use store::api::Store;
 
 /// What a step did.
@@ -18,6 +20,19 @@ pub enum Stepped {
     Staged,
     Sealed,
     Idle,
+}
+
+impl fmt::Display for Stepped {
+    ghost output = { λ s. Some (step_text s) };
+
+    fn fmt<W: fmt::Write>(&self, f: &mut fmt::Formatter<W>) -> fmt::Result {
+        match *self {
+            Stepped::Opened => f.write_str("opened"),
+            Stepped::Staged => f.write_str("staged"),
+            Stepped::Sealed => f.write_str("sealed"),
+            Stepped::Idle => f.write_str("idle"),
+        }
+    }
 }
 
 impl<S: Store, L: Log> Site<S, L> {
