@@ -6,11 +6,12 @@ use Rattle.std.proofs.lemmas.List.{length_push, length-drop, length-take-le, tak
 use Rattle.std.proofs.lemmas.Bool.{leb-true}
 use Rattle.logs.specs.declared.ring.Ring.{Ring}
 use Rattle.logs.specs.declared.pages.Pages.{Pages}
-use Rattle.logs.specs.LogModel.{Entry, limit, an_entry, a_holding, cost, total_cost, last_held, loggable, all_loggable, fits, can_append, appended, held_above}
+use Rattle.logs.specs.LogModel.{Entry, HeldBounds, limit, an_entry, a_holding, cost, total_cost, last_held, loggable, all_loggable, fits, can_append, appended, held_above}
 use Rattle.logs.specs.RingModel.{ring_items, ring_size}
 use Rattle.logs.specs.PageWords.{page_words, pages_words, begins, entries_in}
 use Rattle.logs.specs.PagesModel.{pages_entries, pages_held, Located}
 use Rattle.logs.specs.Holding.{entry_some, append_parts, append_taken, above_more}
+use Rattle.logs.specs.Rings.{ring_count}
 use Rattle.logs.specs.Loggable.{loggable_push, loggable_drop, loggable_take, loggable_at}
 use Rattle.logs.specs.PageLaws.{length_pages, pages_back, pages_push, pages_drop, length_begins, begins_push, begins_drop, begins_at, page_at, cost_bound, cost_least, cost_front}
 
@@ -199,3 +200,16 @@ module _ (p : Pages) (v b n gone : ℕ) (bound : b ≡ min v (last_held (pages_h
       ∙ ap (λ m. a_holding b (drop n (pages_entries p)) m 3 2) size
       ∙ ap (λ m. a_holding b (drop m (pages_entries p)) (ring_size p.words) 3 2) count
       ∙ above_more (pages_held p) v b bound above
+
+-- what holds of pages' entries
+pub pages_bounds : (p : Pages) → HeldBounds 3 2 (pages_held p)
+pages_bounds p = record {
+  entry_cost_held = refl;
+  write_cost_held = refl;
+  entry_cost_bound = omega arith;
+  write_cost_bound = omega arith;
+  last_bound = omega (arith, pages_last p, p.high);
+  capacity_bound = omega (arith, p.small);
+  affordable = omega (arith, pages_cost p, ring_count p.words, p.words.room);
+  readable = p.sound;
+}

@@ -4,6 +4,7 @@ pub mod RingModel
 pub mod CountersModel
 pub mod RowModel
 pub mod TableModel
+pub mod KeptModel
 pub mod FlatModel
 pub mod PageWords
 pub mod PagesModel

@@ -1,29 +1,32 @@
--- What holds of each of the two logs, for crates that know which one they have.
-use Rattle.std.specs.Prelude.{◌≡◌, ◌≤◌, true}
+-- What holds of every log, and of each of the two for crates that know which one they have.
+use Rattle.std.specs.Prelude.{ℕ}
 use Rattle.std.proofs.Common.{arith}
 use Rattle.std.proofs.lemmas.List.{length-take-le}
-use Rattle.logs.specs.declared.counters.Counters.{Counters}
-use Rattle.logs.specs.declared.flat.Flat.{Flat}
-use Rattle.logs.specs.declared.packed.Packed.{Packed}
-use Rattle.logs.specs.LogModel.{Held, Bounded, limit, a_log, last_held, total_cost, all_loggable}
-use Rattle.logs.specs.CountersModel.{counters_marks}
+use Rattle.logs.specs.declared.kept.Kept.{Kept}
+use Rattle.logs.specs.declared.pages.Pages.{Pages}
+use Rattle.logs.specs.declared.table.Table.{Table}
+use Rattle.logs.specs.LogModel.{Held, HeldBounds, Bounded}
+use Rattle.logs.specs.KeptModel.{kept_model}
 use Rattle.logs.specs.FlatModel.{flat_model}
 use Rattle.logs.specs.PackedModel.{packed_model}
-use Rattle.logs.specs.Rings.{ring_count}
-use Rattle.logs.specs.Tables.{table_last, table_affordable}
-use Rattle.logs.specs.Laid.{pages_last, pages_cost}
+use Rattle.logs.specs.TableModel.{table_held}
+use Rattle.logs.specs.PagesModel.{pages_held}
+use Rattle.logs.specs.Tables.{table_bounds}
+use Rattle.logs.specs.Laid.{pages_bounds}
 
-bounded_from : (h : Held) (k : Counters) → last_held h ≤ limit → h.capacity ≤ limit → h.entry_cost ≤ limit → h.write_cost ≤ limit →
-    total_cost h.entry_cost h.write_cost h.entries ≤ h.capacity → all_loggable h.entries ≡ true → Bounded (a_log h (counters_marks k))
-bounded_from h k last capacity entry_cost write_cost affordable readable =
+pub kept_bounded : {H : Type 0} {entry_cost write_cost : ℕ} (held_of : H → Held) → ((h : H) → HeldBounds entry_cost write_cost (held_of h)) →
+    (l : Kept H) → Bounded (kept_model held_of l)
+kept_bounded held_of bounds l =
+    let b = bounds l.holder in
+    let k = l.counters in
     let n = length-take-le k.sites k.known (omega (arith, k.eight, k.few)) in
     record {
-      last_bound = last;
-      capacity_bound = capacity;
-      entry_cost_bound = entry_cost;
-      write_cost_bound = write_cost;
-      affordable = affordable;
-      readable = readable;
+      last_bound = b.last_bound;
+      capacity_bound = b.capacity_bound;
+      entry_cost_bound = omega (arith, b.entry_cost_held, b.entry_cost_bound);
+      write_cost_bound = omega (arith, b.write_cost_held, b.write_cost_bound);
+      affordable = b.affordable;
+      readable = b.readable;
       place_bound = k.placed;
       tickets_bound = k.counted;
       known_bound = k.within;
@@ -31,13 +34,8 @@ bounded_from h k last capacity entry_cost write_cost affordable readable =
       two_sites = omega (arith, n, k.two);
     }
 
-pub flat_bounded : (l : Flat) → Bounded (flat_model l)
-flat_bounded l =
-    let t = l.table in
-    bounded_from _ l.counters (omega (arith, table_last t, t.high)) (omega (arith, t.small)) (omega arith) (omega arith) (table_affordable t) t.sound
+pub flat_bounded : (l : Kept Table) → Bounded (flat_model l)
+flat_bounded = kept_bounded table_held table_bounds
 
-pub packed_bounded : (l : Packed) → Bounded (packed_model l)
-packed_bounded l =
-    let p = l.pages in
-    bounded_from _ l.counters (omega (arith, pages_last p, p.high)) (omega (arith, p.small)) (omega arith) (omega arith)
-    (omega (arith, pages_cost p, ring_count p.words, p.words.room)) p.sound
+pub packed_bounded : (l : Kept Pages) → Bounded (packed_model l)
+packed_bounded = kept_bounded pages_held pages_bounds

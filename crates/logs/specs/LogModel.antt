@@ -4,6 +4,7 @@ use Rattle.std.specs.List.{slice_get}
 use Rattle.words.specs.declared.changes.Write.{Write}
 use Rattle.words.specs.Writes.{write_fits}
 use Rattle.logs.specs.declared.heads.EntryHead.{EntryHead}
+use Rattle.logs.specs.declared.heads.NewEntry.{NewEntry}
 
 -- The largest version, place, ticket count and known number: what the load of a word holds.
 abbrev pub limit : ℕ
@@ -45,6 +46,9 @@ pub record Marks : Type 0 where
 
 abbrev pub an_entry : ℕ → ℕ → List Write → Entry
 an_entry home ticket writes = record { home = home; ticket = ticket; writes = writes }
+
+abbrev pub entry_of : NewEntry → Entry
+entry_of e = an_entry e.home e.ticket e.writes.now
 
 abbrev pub a_holding : ℕ → List Entry → ℕ → ℕ → ℕ → Held
 a_holding floor entries capacity entry_cost write_cost =
@@ -211,6 +215,17 @@ ticketed m = a_log (held m) (mark_ticketed (marks m))
 
 abbrev pub trimmed : LogModel → ℕ → LogModel
 trimmed m v = a_log (held_above (held m) v) (marks m)
+
+-- What holds of every log's entries, where an entry and a write cost so much.
+pub record HeldBounds (entry_cost write_cost : ℕ) (h : Held) : Type 0 where
+  pub entry_cost_held : h.entry_cost ≡ entry_cost
+  pub write_cost_held : h.write_cost ≡ write_cost
+  pub entry_cost_bound : entry_cost ≤ limit
+  pub write_cost_bound : write_cost ≤ limit
+  pub last_bound : last_held h ≤ limit
+  pub capacity_bound : h.capacity ≤ limit
+  pub affordable : total_cost h.entry_cost h.write_cost h.entries ≤ h.capacity
+  pub readable : all_loggable h.entries ≡ true
 
 -- What holds of every log.
 pub record Bounded (m : LogModel) : Type 0 where

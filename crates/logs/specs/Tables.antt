@@ -7,7 +7,7 @@ use Rattle.std.proofs.lemmas.Bool.Decides.{nat_tests}
 use Rattle.logs.specs.declared.ring.Ring.{Ring}
 use Rattle.logs.specs.declared.row.FlatEntry.{FlatEntry}
 use Rattle.logs.specs.declared.table.Table.{Table}
-use Rattle.logs.specs.LogModel.{Entry, limit, a_holding, total_cost, last_held, all_loggable, fits, can_append, appended, held_above, entry_held}
+use Rattle.logs.specs.LogModel.{Entry, HeldBounds, limit, a_holding, total_cost, last_held, all_loggable, fits, can_append, appended, held_above, entry_held}
 use Rattle.logs.specs.RingModel.{ring_items, ring_size}
 use Rattle.logs.specs.RowModel.{row_entry}
 use Rattle.logs.specs.TableModel.{table_held}
@@ -81,6 +81,18 @@ module _ (t : Table) (v b : ℕ) (bound : b ≡ min v (last_held (table_held t))
       ∙ ap (λ n. a_holding b (drop (b - t.floor) (table_held t).entries) n 1 0) size
       ∙ above_more (table_held t) v b bound above
 
--- what the entries of a table cost
-pub table_affordable : (t : Table) → total_cost 1 0 (table_held t).entries ≤ ring_size t.rows
+-- what holds of a table's entries
+table_affordable : (t : Table) → total_cost 1 0 (table_held t).entries ≤ ring_size t.rows
 table_affordable t = omega (arith, flat_cost (table_held t).entries, table_long t, ring_count t.rows, t.rows.room)
+
+pub table_bounds : (t : Table) → HeldBounds 1 0 (table_held t)
+table_bounds t = record {
+  entry_cost_held = refl;
+  write_cost_held = refl;
+  entry_cost_bound = omega arith;
+  write_cost_bound = omega arith;
+  last_bound = omega (arith, table_last t, t.high);
+  capacity_bound = omega (arith, t.small);
+  affordable = table_affordable t;
+  readable = t.sound;
+}

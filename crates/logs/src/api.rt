@@ -1,11 +1,15 @@
 // The interface of a log.
-ghost use Rattle.std.specs.Prelude.{◌≡◌, length};
+ghost use Rattle.std.specs.Prelude.{◌≡◌, length, is_ok};
 ghost use Rattle.std.specs.List.{slice_get};
 ghost use Rattle.std.specs.Option.{option_map};
-ghost use Rattle.logs.specs.LogModel.{LogModel, Bounded, an_entry, last_version, entry_at, head_of, write_of, least, can_commit, committed, can_copy, copied, passed, noted, closed, ticketed, trimmed};
+ghost use Rattle.logs.specs.LogModel.{LogModel, Bounded, entry_of, last_version, entry_at, head_of, write_of, least, can_commit, committed, can_copy, copied, passed, noted, closed, ticketed, trimmed};
 
-use crate::heads::EntryHead;
+use crate::heads::{EntryHead, NewEntry};
 use words::changes::Write;
+
+/// An entry was not taken: the log has no room for it, is at a limit, or holds no such entry.
+#[derive(Clone, Copy, PartialEq, Eq, Debug)]
+pub struct Declined;
 
 /// A site's log: the entries above its floor, the place that it has come to, the known number of each site, the
 /// tickets that were given and whether the log is whole.
@@ -66,15 +70,15 @@ pub trait Log {
 
     /// Appends an entry and adds 1 to the place. Declines, and changes nothing, exactly where the cost does not fit,
     /// the last version or the place is at the limit, or the entry is not loggable.
-    fn commit(&mut self, home: u32, ticket: u32, writes: &[Write]) -> bool
-        ensures answer { result ≡ can_commit (model self.old) (an_entry home ticket writes.now) }
-        ensures after { model self.new ≡ committed (model self.old) (an_entry home ticket writes.now) };
+    fn commit(&mut self, entry: NewEntry<'_>) -> Result<(), Declined>
+        ensures answer { is_ok result ≡ can_commit (model self.old) (entry_of entry.entry) }
+        ensures after { model self.new ≡ committed (model self.old) (entry_of entry.entry) };
 
     /// Appends an entry, leaves the place and clears the mark. Declines, and changes nothing, exactly where the cost
     /// does not fit, the last version is at the limit, or the entry is not loggable.
-    fn copy(&mut self, home: u32, ticket: u32, writes: &[Write]) -> bool
-        ensures answer { result ≡ can_copy (model self.old) (an_entry home ticket writes.now) }
-        ensures after { model self.new ≡ copied (model self.old) (an_entry home ticket writes.now) };
+    fn copy(&mut self, entry: NewEntry<'_>) -> Result<(), Declined>
+        ensures answer { is_ok result ≡ can_copy (model self.old) (entry_of entry.entry) }
+        ensures after { model self.new ≡ copied (model self.old) (entry_of entry.entry) };
 
     /// Adds 1 to the place; at the limit it changes nothing.
     fn pass(&mut self)

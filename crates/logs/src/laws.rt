@@ -1,44 +1,32 @@
-// Laws of every log, each as the contract of a function that computes nothing.
+// Laws of every log, each the contract of a function that does nothing.
 ghost use Rattle.logs.specs.Laws.{EntriesStay, EntriesFollow, TrimKeepsAbove, NumbersRise, PlaceRises, LeastOfKnown};
 
 /// An entry never changes once it is there: it stays until the floor has come to it.
-pub fn entries_stay() -> u8
+pub fn entries_stay()
     ensures { EntriesStay }
-{
-    0
-}
+{}
 
 /// Every version above the floor, up to the last one, has an entry, so entries only go from the front.
-pub fn entries_follow() -> u8
+pub fn entries_follow()
     ensures { EntriesFollow }
-{
-    0
-}
+{}
 
 /// A trim removes no entry above its bound.
-pub fn trim_keeps_above() -> u8
+pub fn trim_keeps_above()
     ensures { TrimKeepsAbove }
-{
-    0
-}
+{}
 
 /// The floor and the last version never fall.
-pub fn numbers_rise() -> u8
+pub fn numbers_rise()
     ensures { NumbersRise }
-{
-    0
-}
+{}
 
 /// The place never falls but where a closing sets it.
-pub fn place_rises() -> u8
+pub fn place_rises()
     ensures { PlaceRises }
-{
-    0
-}
+{}
 
 /// A log's least known number is the least of its list.
-pub fn least_of_known() -> u8
+pub fn least_of_known()
     ensures { LeastOfKnown }
-{
-    0
-}
+{}

@@ -6,6 +6,8 @@ pub(crate) mod copies;
 pub(crate) mod counters;
 pub mod flat;
 pub mod heads;
+pub(crate) mod holder;
+pub(crate) mod kept;
 pub mod laws;
 pub(crate) mod limits;
 pub mod packed;

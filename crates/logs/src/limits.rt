@@ -2,8 +2,9 @@
 ghost use Rattle.std.specs.Prelude.{◌≡◌};
 ghost use Rattle.words.specs.Bits.{is_group};
 ghost use Rattle.words.specs.Writes.{change_fits, write_fits};
-ghost use Rattle.logs.specs.LogModel.{an_entry, all_within, all_fit, loggable};
+ghost use Rattle.logs.specs.LogModel.{entry_of, all_within, all_fit, loggable};
 
+use crate::heads::NewEntry;
 use words::changes::{Change, Write};
 
 // The largest version, place, ticket count and known number.
@@ -57,9 +58,14 @@ fn all_fit(writes: &[Write]) -> bool
     true
 }
 
-// Whether a log can hold such an entry.
-pub(crate) fn is_loggable(home: u32, ticket: u32, writes: &[Write]) -> bool
-    ensures { result ≡ loggable (an_entry home ticket writes.now) }
-{
-    home < 16 && ticket <= LIMIT && writes.len() <= MOST_WRITES && all_fit(writes)
+impl NewEntry<'_> {
+    // Whether a log can hold it.
+    pub(crate) fn is_loggable(self) -> bool
+        ensures { result ≡ loggable (entry_of self.entry) }
+    {
+        self.home < 16
+            && self.ticket <= LIMIT
+            && self.writes.len() <= MOST_WRITES
+            && all_fit(self.writes)
+    }
 }

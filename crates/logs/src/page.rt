@@ -2,10 +2,11 @@
 ghost use Rattle.std.specs.Prelude.{◌≡◌, ◌+◌, ◌*◌, ◌<◌, ◌≤◌, true, ◌++◌, length};
 ghost use Rattle.words.specs.Bits.{load_of, word, site_of, count_of, head};
 ghost use Rattle.words.specs.Writes.{change_fits, change_word, writes_words};
-ghost use Rattle.logs.specs.LogModel.{an_entry, all_fit, loggable};
+ghost use Rattle.logs.specs.LogModel.{entry_of, all_fit, loggable};
 ghost use Rattle.logs.specs.RingModel.{ring_items, ring_size};
 ghost use Rattle.logs.specs.PageWords.{page_words};
 
+use crate::heads::NewEntry;
 use crate::ring::Ring;
 use words::changes::{Change, Write};
 
@@ -68,21 +69,15 @@ fn push_writes(words: &mut Ring<u32>, writes: &[Write])
 }
 
 // Adds the page of an entry at the end.
-pub(crate) fn push_page(
-    words: &mut Ring<u32>,
-    version: u32,
-    home: u32,
-    ticket: u32,
-    writes: &[Write],
-)
-    requires room { length (ring_items words.old) + (3 + 2 * length writes.now) ≤ ring_size words.old }
+pub(crate) fn push_page(words: &mut Ring<u32>, version: u32, entry: NewEntry<'_>)
+    requires room { length (ring_items words.old) + (3 + 2 * length entry.writes.now) ≤ ring_size words.old }
     requires version { version ≤ 268435455 }
-    requires loggable { loggable (an_entry home ticket writes.now) ≡ true }
-    ensures items { ring_items words.new ≡ ring_items words.old ++ page_words version (an_entry home ticket writes.now) }
+    requires loggable { loggable (entry_of entry) ≡ true }
+    ensures items { ring_items words.new ≡ ring_items words.old ++ page_words version (entry_of entry.entry) }
     ensures size { ring_size words.new ≡ ring_size words.old }
 {
-    words.push(ENTRY + home * 0x0100_0000 + writes.len() as u32);
+    words.push(ENTRY + entry.home * 0x0100_0000 + entry.writes.len() as u32);
     words.push(VERSION + version);
-    words.push(TICKET + ticket);
-    push_writes(words, writes);
+    words.push(TICKET + entry.ticket);
+    push_writes(words, entry.writes);
 }

@@ -9,7 +9,7 @@ use crate::ring::Ring;
 pub mod ops;
 
 #[derive(Drop)]
-pub(crate) struct Pages {
+pub struct Pages {
     floor: u32,
     words: Ring<u32>,
     // Where each page begins, counted from the first word that there ever was.

@@ -10,7 +10,7 @@ use crate::row::FlatEntry;
 pub mod ops;
 
 #[derive(Drop)]
-pub(crate) struct Table {
+pub struct Table {
     floor: u32,
     rows: Ring<FlatEntry>,
     ghost high: { floor + length (ring_items rows) ≤ 268435455 },

@@ -1,13 +1,13 @@
 // What pages do.
 ghost use Rattle.std.specs.Prelude.{◌≡◌, ◌≤◌, min, length, take, vec_len};
-ghost use Rattle.std.specs.Option.{option_map};
-ghost use Rattle.logs.specs.LogModel.{an_entry, nothing_held, last_held, total_cost, fits, can_append, appended, held_above, entry_held, head_of, write_of};
+ghost use Rattle.logs.specs.LogModel.{nothing_held, total_cost};
 ghost use Rattle.logs.specs.RingModel.{ring_items};
 ghost use Rattle.logs.specs.PagesModel.{pages_held, Located, MadePages};
+ghost use Rattle.logs.specs.Laid.{pages_bounds};
 
 use super::Pages;
-use crate::heads::EntryHead;
-use crate::limits::{LIMIT, is_loggable};
+use crate::heads::{EntryHead, NewEntry};
+use crate::holder::Holder;
 use crate::page::{count, home, load, push_page};
 use crate::ring::Ring;
 use std::alloc::Global;
@@ -33,24 +33,6 @@ impl Pages {
         }
     }
 
-    pub(crate) fn floor(&self) -> u32
-        ensures { result ≡ (pages_held self.now).floor }
-    {
-        self.floor
-    }
-
-    pub(crate) fn last(&self) -> u32
-        ensures { result ≡ last_held (pages_held self.now) }
-    {
-        self.floor + self.starts.len() as u32
-    }
-
-    pub(crate) fn capacity(&self) -> u32
-        ensures { result ≡ (pages_held self.now).capacity }
-    {
-        self.words.size() as u32
-    }
-
     // Where the page of a version begins among the words.
     fn page_of(&self, version: u32) -> Option<usize>
         ensures { Located self.now version result }
@@ -60,63 +42,6 @@ impl Pages {
         }
         let start = *self.starts.at((version - self.floor - 1) as usize);
         Some((start - self.removed) as usize)
-    }
-
-    pub(crate) fn entry(&self, version: u32) -> Option<EntryHead>
-        ensures { result ≡ option_map head_of (entry_held (pages_held self.now) version) }
-    {
-        let Some(page) = self.page_of(version) else {
-            return None;
-        };
-        let head = *self.words.at(page);
-        Some(EntryHead {
-            home: home(head),
-            ticket: load(*self.words.at(page + 2)),
-            count: count(head),
-        })
-    }
-
-    pub(crate) fn write(&self, version: u32, number: u32) -> Option<Write>
-        ensures { result ≡ write_of (entry_held (pages_held self.now) version) number }
-    {
-        let Some(page) = self.page_of(version) else {
-            return None;
-        };
-        if number >= count(*self.words.at(page)) {
-            return None;
-        }
-        let place = page + 3 + 2 * number as usize;
-        let (write, _) = read_write(&[*self.words.at(place), *self.words.at(place + 1)]);
-        write
-    }
-
-    // Whether one more entry of that many writes fits.
-    fn has_room(&self, count: usize) -> bool
-        requires { count ≤ 16 }
-        ensures { result ≡ fits (pages_held self.now) count }
-    {
-        self.words.len() + 3 + 2 * count <= self.words.size()
-    }
-
-    fn can_append(&self, home: u32, ticket: u32, writes: &[Write]) -> bool
-        ensures { result ≡ can_append (pages_held self.now) (an_entry home ticket writes.now) }
-    {
-        is_loggable(home, ticket, writes) && self.has_room(writes.len()) && self.last() < LIMIT
-    }
-
-    // Appends an entry, or declines.
-    pub(crate) fn append(&mut self, home: u32, ticket: u32, writes: &[Write]) -> bool
-        ensures answer { result ≡ can_append (pages_held self.old) (an_entry home ticket writes.now) }
-        ensures after { pages_held self.new ≡ appended (pages_held self.old) (an_entry home ticket writes.now) }
-    {
-        if !self.can_append(home, ticket, writes) {
-            return false;
-        }
-        let version = self.last() + 1;
-        let start = self.removed + self.words.len() as u64;
-        self.starts.push(start);
-        push_page(&mut self.words, version, home, ticket, writes);
-        true
     }
 
     // How many words the first pages have.
@@ -130,11 +55,65 @@ impl Pages {
             self.words.len()
         }
     }
+}
 
-    // Removes the entries up to a version.
-    pub(crate) fn trim(&mut self, version: u32)
-        ensures { pages_held self.new ≡ held_above (pages_held self.old) version }
-    {
+impl Holder for Pages {
+    const ENTRY_COST: u32 = 3;
+
+    const WRITE_COST: u32 = 2;
+
+    ghost ENTRY_COST = { 3 };
+
+    ghost WRITE_COST = { 2 };
+
+    ghost held = { pages_held };
+
+    ghost bounds = { pages_bounds };
+
+    fn entry(&self, version: u32) -> Option<EntryHead> {
+        let page = self.page_of(version)?;
+        let head = *self.words.at(page);
+        Some(EntryHead {
+            home: home(head),
+            ticket: load(*self.words.at(page + 2)),
+            count: count(head),
+        })
+    }
+
+    fn write(&self, version: u32, number: u32) -> Option<Write> {
+        let page = self.page_of(version)?;
+        if number >= count(*self.words.at(page)) {
+            return None;
+        }
+        let place = page + 3 + 2 * number as usize;
+        let (write, _) = read_write(&[*self.words.at(place), *self.words.at(place + 1)]);
+        write
+    }
+
+    fn floor(&self) -> u32 {
+        self.floor
+    }
+
+    fn last(&self) -> u32 {
+        self.floor + self.starts.len() as u32
+    }
+
+    fn capacity(&self) -> u32 {
+        self.words.size() as u32
+    }
+
+    fn has_room(&self, count: usize) -> bool {
+        self.words.len() + 3 + 2 * count <= self.words.size()
+    }
+
+    fn push(&mut self, entry: NewEntry<'_>) {
+        let version = self.last() + 1;
+        let start = self.removed + self.words.len() as u64;
+        self.starts.push(start);
+        push_page(&mut self.words, version, entry);
+    }
+
+    fn trim(&mut self, version: u32) {
         let bound = version.min(self.last());
         if bound > self.floor {
             let count = (bound - self.floor) as usize;

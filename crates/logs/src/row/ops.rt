@@ -1,12 +1,12 @@
 // What the memory of one entry does.
 ghost use Rattle.std.specs.Prelude.{◌≡◌, ◌≤◌, [], length};
 ghost use Rattle.std.specs.List.{slice_get};
-ghost use Rattle.logs.specs.LogModel.{an_entry, head_of};
+ghost use Rattle.logs.specs.LogModel.{an_entry, entry_of, head_of};
 ghost use Rattle.logs.specs.RowModel.{row_entry};
 
 use super::FlatEntry;
 use crate::copies::overwrite;
-use crate::heads::EntryHead;
+use crate::heads::{EntryHead, NewEntry};
 use words::changes::{Change, Write};
 
 const NO_WRITE: Write = Write {
@@ -27,17 +27,17 @@ impl FlatEntry {
         }
     }
 
-    pub(crate) fn of(home: u32, ticket: u32, writes: &[Write]) -> FlatEntry
-        requires { length writes.now ≤ 16 }
-        ensures { row_entry result ≡ an_entry home ticket writes.now }
+    pub(crate) fn of(entry: NewEntry<'_>) -> FlatEntry
+        requires { length entry.writes.now ≤ 16 }
+        ensures { row_entry result ≡ entry_of entry.entry }
     {
-        let mut table = [NO_WRITE; 16];
-        overwrite(&mut table, writes);
+        let mut writes = [NO_WRITE; 16];
+        overwrite(&mut writes, entry.writes);
         FlatEntry {
-            home,
-            ticket,
-            count: writes.len(),
-            writes: table,
+            home: entry.home,
+            ticket: entry.ticket,
+            count: entry.writes.len(),
+            writes,
         }
     }
 

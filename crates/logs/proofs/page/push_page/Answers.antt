@@ -1,5 +1,5 @@
 use Rattle.std.proofs.Common.{refl, ◌∙◌, arith}
-use Rattle.logs.specs.LogModel.{an_entry}
+use Rattle.logs.specs.LogModel.{entry_of}
 use Rattle.logs.specs.RingModel.{ring_items}
 use Rattle.logs.specs.Loggable.{loggable_parts}
 use Rattle.logs.specs.PageLaws.{page_more}
@@ -18,12 +18,12 @@ push_writes-requires c =
         c.push-3.ensures.size,
         c.requires.room,
       );
-      fit = (loggable_parts (an_entry c.args.home c.args.ticket c.args.writes.now) c.requires.loggable).3;
+      fit = (loggable_parts (entry_of c.args.entry) c.requires.loggable).3;
     }
 
 pub returns : goal.returns
 returns c =
-    let e = an_entry c.args.home c.args.ticket c.args.writes.now in
+    let e = entry_of c.args.entry in
     record {
       items = c.push_writes.ensures.items
           ∙ page_more (ring_items c.args.words.now) (ring_items c.push.new.self) (ring_items c.push-2.new.self) (ring_items c.push-3.new.self)

@@ -5,5 +5,5 @@ use Rattle.logs.proofs.row.FlatEntry.of.Goals as goal
 
 pub returns : goal.returns
 returns c =
-    let ws = c.args.writes.now in
-    ap (an_entry c.args.home c.args.ticket) (ap (take (length ws)) c.overwrite.ensures ∙ take_at ws _ _ refl)
+    let ws = c.args.entry.writes.now in
+    ap (an_entry c.args.entry.home c.args.entry.ticket) (ap (take (length ws)) c.overwrite.ensures ∙ take_at ws _ _ refl)

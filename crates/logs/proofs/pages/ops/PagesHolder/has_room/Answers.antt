@@ -1,6 +1,6 @@
 use Rattle.std.proofs.Common.{◌+◌, ◌*◌, leb, ap, ◌∙◌}
 use Rattle.logs.specs.Laid.{pages_fits}
-use Rattle.logs.proofs.pages.Pages.has_room.Goals as goal
+use Rattle.logs.proofs.pages.ops.PagesHolder.has_room.Goals as goal
 
 pub returns : goal.returns
 returns c =

@@ -1,7 +1,7 @@
 use Rattle.std.proofs.Common.{◌-◌, min, refl, ap, ◌∙◌, arith}
 use Rattle.logs.specs.Laid.{pages_last, words_fewer, kept_high, kept_near, kept_laid, kept_begun, kept_sound, kept_held}
 use Rattle.logs.specs.Rings.{ring_count}
-use Rattle.logs.proofs.pages.Pages.trim.Goals as goal
+use Rattle.logs.proofs.pages.ops.PagesHolder.trim.Goals as goal
 
 pub words_of-length-requires : goal.words_of-length-requires
 words_of-length-requires c = omega (arith, pages_last c.args.self.now, c.last.ensures)

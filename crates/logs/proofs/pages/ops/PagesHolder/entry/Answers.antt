@@ -4,19 +4,19 @@ use Rattle.logs.specs.LogModel.{head_of}
 use Rattle.logs.specs.RingModel.{ring_items}
 use Rattle.logs.specs.PageLaws.{page_inside, head_read}
 use Rattle.logs.specs.Rings.{ring_count}
-use Rattle.logs.proofs.pages.Pages.entry.Goals as goal
+use Rattle.logs.proofs.pages.ops.PagesHolder.entry.Goals as goal
 
 pub at-head-requires : goal.at-head-requires
 at-head-requires c =
-    let f = c.in-Some.ensures in
-    omega (arith, page_inside (ring_items c.args.self.now.words) c.in-Some.page c.args.version f.0 f.2 f.3)
+    let f = c.in_ok-page.ensures in
+    omega (arith, page_inside (ring_items c.args.self.now.words) c.in_ok-page.page c.args.version f.0 f.2 f.3)
 
 pub overflow_add-page : goal.overflow_add-page
 overflow_add-page c =
-    let f = c.in-Some.ensures in
+    let f = c.in_ok-page.ensures in
     omega (
       arith,
-      page_inside (ring_items c.args.self.now.words) c.in-Some.page c.args.version f.0 f.2 f.3,
+      page_inside (ring_items c.args.self.now.words) c.in_ok-page.page c.args.version f.0 f.2 f.3,
       c.args.self.now.small,
       ring_count c.args.self.now.words,
       c.args.self.now.words.room,
@@ -24,14 +24,14 @@ overflow_add-page c =
 
 pub at-requires : goal.at-requires
 at-requires c =
-    let f = c.in-Some.ensures in
-    omega (arith, page_inside (ring_items c.args.self.now.words) c.in-Some.page c.args.version f.0 f.2 f.3)
+    let f = c.in_ok-page.ensures in
+    omega (arith, page_inside (ring_items c.args.self.now.words) c.in_ok-page.page c.args.version f.0 f.2 f.3)
 
 pub returns : goal.returns
 returns c =
-    let f = c.in-Some.ensures in
+    let f = c.in_ok-page.ensures in
     let ws = ring_items c.args.self.now.words in
-    let n = c.in-Some.page in
+    let n = c.in_ok-page.page in
     let v = c.args.version in
     ap Some (head_read ws n v f.0 f.2 f.3 c.home.result c.load.result c.count.result
     c.at-head.result.now c.at.result.now c.at-head.ensures c.at.ensures c.home.ensures c.load.ensures c.count.ensures)

@@ -1,6 +1,6 @@
 use Rattle.std.proofs.Common.{◌+◌, sym, ap, ◌∙◌}
 use Rattle.logs.specs.Laid.{pages_last}
-use Rattle.logs.proofs.pages.Pages.last.Goals as goal
+use Rattle.logs.proofs.pages.ops.PagesHolder.last.Goals as goal
 
 pub returns : goal.returns
 returns c =

@@ -1,6 +1,6 @@
 use Rattle.std.proofs.Common.{◌+◌, sym, ap, ◌∙◌}
 use Rattle.logs.specs.Tables.{table_last}
-use Rattle.logs.proofs.table.Table.last.Goals as goal
+use Rattle.logs.proofs.table.ops.TableHolder.last.Goals as goal
 
 pub returns : goal.returns
 returns c =

@@ -1,0 +1,79 @@
+use Rattle.std.proofs.Common.{sym, ap, ◌∙◌, arith}
+use Rattle.std.proofs.lemmas.Option.{slice_get_past}
+use Rattle.logs.specs.LogModel.{write_of}
+use Rattle.logs.specs.RingModel.{ring_items}
+use Rattle.logs.specs.PageLaws.{page_inside, count_read, write_read}
+use Rattle.logs.specs.Rings.{ring_count}
+use Rattle.logs.proofs.pages.ops.PagesHolder.write.Goals as goal
+
+pub at-requires : goal.at-requires
+at-requires c =
+    let f = c.in_ok-page.ensures in
+    omega (arith, page_inside (ring_items c.args.self.now.words) c.in_ok-page.page c.args.version f.0 f.2 f.3)
+
+pub returns-then-number-count : goal.returns-then-number-count
+returns-then-number-count c =
+    let f = c.in_ok-page.ensures in
+    let n = count_read (ring_items c.args.self.now.words) c.in_ok-page.page c.args.version f.0 f.2 f.3 c.at.result.now c.at.ensures in
+    sym (ap (λ o. write_of o c.args.number) f.1 ∙ slice_get_past f.0.writes c.args.number (omega (arith, n, c.count.ensures)))
+
+pub overflow_add-place : goal.overflow_add-place
+overflow_add-place c =
+    let f = c.in_ok-page.ensures in
+    omega (
+      arith,
+      page_inside (ring_items c.args.self.now.words) c.in_ok-page.page c.args.version f.0 f.2 f.3,
+      c.args.self.now.small,
+      ring_count c.args.self.now.words,
+      c.args.self.now.words.room,
+    )
+
+pub overflow_add-place-2 : goal.overflow_add-place-2
+overflow_add-place-2 c =
+    let f = c.in_ok-page.ensures in
+    let n = count_read (ring_items c.args.self.now.words) c.in_ok-page.page c.args.version f.0 f.2 f.3 c.at.result.now c.at.ensures in
+    omega (
+      arith,
+      n,
+      c.count.ensures,
+      page_inside (ring_items c.args.self.now.words) c.in_ok-page.page c.args.version f.0 f.2 f.3,
+      c.args.self.now.small,
+      ring_count c.args.self.now.words,
+      c.args.self.now.words.room,
+    )
+
+pub at-requires-2 : goal.at-requires-2
+at-requires-2 c =
+    let f = c.in_ok-page.ensures in
+    let n = count_read (ring_items c.args.self.now.words) c.in_ok-page.page c.args.version f.0 f.2 f.3 c.at.result.now c.at.ensures in
+    omega (arith, n, c.count.ensures, page_inside (ring_items c.args.self.now.words) c.in_ok-page.page c.args.version f.0 f.2 f.3)
+
+pub overflow_add-place-3 : goal.overflow_add-place-3
+overflow_add-place-3 c =
+    let f = c.in_ok-page.ensures in
+    let n = count_read (ring_items c.args.self.now.words) c.in_ok-page.page c.args.version f.0 f.2 f.3 c.at.result.now c.at.ensures in
+    omega (
+      arith,
+      n,
+      c.count.ensures,
+      page_inside (ring_items c.args.self.now.words) c.in_ok-page.page c.args.version f.0 f.2 f.3,
+      c.args.self.now.small,
+      ring_count c.args.self.now.words,
+      c.args.self.now.words.room,
+    )
+
+pub at-requires-3 : goal.at-requires-3
+at-requires-3 c =
+    let f = c.in_ok-page.ensures in
+    let n = count_read (ring_items c.args.self.now.words) c.in_ok-page.page c.args.version f.0 f.2 f.3 c.at.result.now c.at.ensures in
+    omega (arith, n, c.count.ensures, page_inside (ring_items c.args.self.now.words) c.in_ok-page.page c.args.version f.0 f.2 f.3)
+
+pub returns : goal.returns
+returns c =
+    let f = c.in_ok-page.ensures in
+    let ws = ring_items c.args.self.now.words in
+    let n = count_read ws c.in_ok-page.page c.args.version f.0 f.2 f.3 c.at.result.now c.at.ensures in
+    c.read_write-write.ensures.write
+    ∙ write_read ws c.in_ok-page.page c.args.version f.0 f.2 f.3 c.args.number c.at-2.result.now c.at-3.result.now
+    (omega (arith, n, c.count.ensures)) c.at-2.ensures c.at-3.ensures
+    ∙ sym (ap (λ o. write_of o c.args.number) f.1)

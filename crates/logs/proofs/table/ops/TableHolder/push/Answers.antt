@@ -1,0 +1,33 @@
+use Rattle.std.proofs.Common.{sym, ◌∙◌, arith}
+use Rattle.logs.specs.LogModel.{entry_of}
+use Rattle.logs.specs.TableModel.{table_held}
+use Rattle.logs.specs.Holding.{append_parts}
+use Rattle.logs.specs.Loggable.{loggable_parts}
+use Rattle.logs.specs.Tables.{table_open, pushed_high, pushed_sound, pushed_held}
+use Rattle.logs.proofs.table.ops.TableHolder.push.Goals as goal
+
+pub of-requires : goal.of-requires
+of-requires c =
+    let e = entry_of c.args.entry in
+    (loggable_parts e (append_parts (table_held c.args.self.now) e c.requires).0).2
+
+pub push-requires : goal.push-requires
+push-requires c =
+    table_open c.args.self.now (entry_of c.args.entry)
+    c.requires
+
+pub invariant_of-self : goal.invariant_of-self
+invariant_of-self c =
+    let t = c.args.self.now in
+    let e = entry_of c.args.entry in
+    record {
+      high = pushed_high t e c.requires _ c.of.ensures c.push.new.self c.push.ensures.items c.push.ensures.size;
+      small = omega (arith, c.push.ensures.size, t.small);
+      sound = pushed_sound t e c.requires _ c.of.ensures c.push.new.self c.push.ensures.items c.push.ensures.size;
+    }
+
+pub returns : goal.returns
+returns c =
+    let t = c.args.self.now in
+    let e = entry_of c.args.entry in
+    pushed_held t e c.requires _ c.of.ensures c.push.new.self c.push.ensures.items c.push.ensures.size
