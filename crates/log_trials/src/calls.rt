@@ -1,6 +1,7 @@
 // A call that changes a log.
 use crate::random::Random;
-use logs::api::Log;
+use logs::api::{Declined, Log};
+use logs::heads::NewEntry;
 use words::changes::Write;
 
 #[derive(Clone, Copy)]
@@ -47,30 +48,29 @@ pub(crate) fn is_append(call: Call) -> bool {
     }
 }
 
-// Makes the call, and answers whether the log took it.
-pub(crate) fn play<L: Log>(log: &mut L, call: Call, writes: &[Write], known: &[u32]) -> bool {
+// Makes the call; an entry may be declined.
+pub(crate) fn play<L: Log>(
+    log: &mut L,
+    call: Call,
+    writes: &[Write],
+    known: &[u32],
+) -> Result<(), Declined> {
     match call {
-        Call::Commit(home, ticket) => log.commit(home, ticket, writes),
-        Call::Copy(home, ticket) => log.copy(home, ticket, writes),
-        Call::Pass => {
-            log.pass();
-            true
-        }
-        Call::Note(site, number) => {
-            log.note(site, number);
-            true
-        }
-        Call::Close(place) => {
-            log.close(place, known);
-            true
-        }
-        Call::Ticket => {
-            log.ticket();
-            true
-        }
-        Call::Trim(version) => {
-            log.trim(version);
-            true
-        }
+        Call::Commit(home, ticket) => log.commit(NewEntry {
+            home,
+            ticket,
+            writes,
+        })?,
+        Call::Copy(home, ticket) => log.copy(NewEntry {
+            home,
+            ticket,
+            writes,
+        })?,
+        Call::Pass => log.pass(),
+        Call::Note(site, number) => log.note(site, number),
+        Call::Close(place) => log.close(place, known),
+        Call::Ticket => log.ticket(),
+        Call::Trim(version) => log.trim(version),
     }
+    Ok(())
 }

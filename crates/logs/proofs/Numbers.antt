@@ -1,16 +1,7 @@
 -- Known numbers: a test of each, one of them set, the least of them.
-use Rattle.std.proofs.Common.{◌≡◌, ℕ, zero, suc, ◌+◌, ◌<◌, ◌≤◌, min, Bool, true, ◌&&◌, leb, List, [], ◌∷◌, length, get_or, drop, set, replicate, fold, sym, refl, ap, ◌∙◌, arith}
-use Rattle.std.proofs.lemmas.List.{at_drop_more, at_drop_all}
+use Rattle.std.proofs.Common.{◌≡◌, ℕ, zero, suc, ◌+◌, ◌<◌, ◌≤◌, min, true, leb, List, [], ◌∷◌, length, get_or, set, replicate, fold, sym, refl, ap, ◌∙◌, arith}
 use Rattle.std.proofs.lemmas.Bool.{and_parts, lt-ltb, le-leb, eq-eqb}
 use Rattle.logs.specs.LogModel.{Marks, limit, a_mark, all_within, mark_noted, mark_closed, least}
-
--- the numbers from place i on, by the test of the one there
-pub within_more : (i : ℕ) (xs : List ℕ) (b : Bool) → i < length xs → leb (get_or xs i 0) limit ≡ b →
-    all_within (drop i xs) ≡ (b && all_within (drop (i + 1) xs))
-within_more i xs b h e = at_drop_more all_within xs i 0 h ∙ ap (λ x. x && all_within (drop (i + 1) xs)) e
-
-pub within_all : (i : ℕ) (xs : List ℕ) → length xs ≤ i → all_within (drop i xs) ≡ true
-within_all i xs h = at_drop_all all_within xs i h
 
 pub within_zeros : (n : ℕ) → all_within (replicate n 0) ≡ true
 within_zeros zero = refl
@@ -36,12 +27,6 @@ least_folded k (j ∷ js) = ap (min k) (least_folded j js) ∙ sym (least_from k
 pub least_begins : (ks : List ℕ) → 0 < length ks → fold min (get_or ks 0 0) ks ≡ least ks
 least_begins [] h = absurd (omega arith)
 least_begins (k ∷ ks) h = let e : min k k ≡ k = omega arith in ap (λ m. fold min m ks) e ∙ sym (least_folded k ks)
-
-pub least_more : (b : ℕ) (ks : List ℕ) (i : ℕ) → i < length ks → fold min b (drop i ks) ≡ fold min (min b (get_or ks i 0)) (drop (i + 1) ks)
-least_more b ks i h = at_drop_more (fold min b) ks i 0 h
-
-pub least_all : (b : ℕ) (ks : List ℕ) (i : ℕ) → length ks ≤ i → fold min b (drop i ks) ≡ b
-least_all b ks i h = at_drop_all (fold min b) ks i h
 
 -- a note and a closing that are taken
 pub noted_is : (k : Marks) (site number : ℕ) → site < length k.known → number ≤ limit → k.place < limit →

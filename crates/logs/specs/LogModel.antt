@@ -2,7 +2,8 @@
 use Rattle.std.specs.Prelude.{◌≡◌, ℕ, ◌+◌, ◌-◌, ◌*◌, ◌≤◌, min, max, Bool, true, false, cond, ◌&&◌, List, [], ◌∷◌, ◌++◌, length, drop, replicate, Some, None, Option, ◌==◌, nat_le, nat_lt, slice_set}
 use Rattle.std.specs.List.{slice_get}
 use Rattle.words.specs.declared.changes.Write.{Write}
-use Rattle.words.specs.Writes.{write_fits}
+use Rattle.words.specs.Bits.{every}
+use Rattle.words.specs.Writes.{all_fit}
 use Rattle.logs.specs.declared.heads.EntryHead.{EntryHead}
 use Rattle.logs.specs.declared.heads.NewEntry.{NewEntry}
 
@@ -105,10 +106,6 @@ total_cost entry_cost write_cost (e ∷ es) =
     cost entry_cost write_cost (length e.writes) + total_cost entry_cost write_cost es
 
 -- Whether every layout has room for the parts of an entry: at most 16 writes, and numbers that the words of a page hold.
-abbrev pub all_fit : List Write → Bool
-all_fit [] = true
-all_fit (w ∷ ws) = write_fits 0 w && all_fit ws
-
 abbrev pub loggable : Entry → Bool
 loggable e = nat_lt e.home 16 && (nat_le e.ticket limit && (nat_le (length e.writes) 16 && all_fit e.writes))
 
@@ -165,8 +162,7 @@ mark_noted k site number =
     cond (can_note k site number) (a_mark (k.place + 1) (slice_set k.known site number) k.tickets k.whole) k
 
 abbrev pub all_within : List ℕ → Bool
-all_within [] = true
-all_within (n ∷ ns) = nat_le n limit && all_within ns
+all_within = every (λ n. nat_le n limit)
 
 -- As many numbers as there are sites, and each that a word holds.
 abbrev pub can_close : Marks → ℕ → List ℕ → Bool

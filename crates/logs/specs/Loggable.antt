@@ -1,11 +1,10 @@
 -- What a log can hold: entry by entry, and write by write.
-use Rattle.std.specs.Prelude.{◌≡◌, ℕ, zero, suc, ◌+◌, ◌<◌, ◌≤◌, Bool, true, ◌&&◌, List, [], ◌∷◌, ◌++◌, length, take, drop, nat_le, nat_lt, slice_index_or, refl}
-use Rattle.std.proofs.Common.{ap, ◌∙◌, arith}
-use Rattle.std.proofs.lemmas.List.{at_drop_more}
+use Rattle.std.specs.Prelude.{◌≡◌, ℕ, zero, suc, ◌<◌, ◌≤◌, true, List, [], ◌∷◌, ◌++◌, length, take, drop, nat_le, nat_lt, slice_index_or, refl}
+use Rattle.std.proofs.Common.{arith}
 use Rattle.std.proofs.lemmas.Bool.{and_parts, ltb-true, leb-true}
 use Rattle.words.specs.declared.changes.Write.{Write}
-use Rattle.words.specs.Writes.{change_fits, write_fits}
-use Rattle.logs.specs.LogModel.{Entry, limit, all_fit, loggable, all_loggable}
+use Rattle.words.specs.Writes.{change_fits, write_fits, all_fit}
+use Rattle.logs.specs.LogModel.{Entry, limit, loggable, all_loggable}
 
 -- What a loggable entry is.
 pub loggable_parts : (e : Entry) → loggable e ≡ true → (e.home < 16) × (e.ticket ≤ limit) × (length e.writes ≤ 16) × (all_fit e.writes ≡ true)
@@ -20,11 +19,6 @@ write_parts w f =
     let p = and_parts (nat_le 0 w.item) _ f in
     let q = and_parts (nat_lt w.item 268435456) (change_fits w.change) p.1 in
     (ltb-true _ _ q.0, q.1)
-
--- the writes from place i on, by the test of the one there
-pub fit_more : (i : ℕ) (ws : List Write) (d : Write) (b : Bool) → i < length ws → write_fits 0 (slice_index_or ws i d) ≡ b →
-    all_fit (drop i ws) ≡ (b && all_fit (drop (i + 1) ws))
-fit_more i ws d b h e = at_drop_more all_fit ws i d h ∙ ap (λ x. x && all_fit (drop (i + 1) ws)) e
 
 -- entries of which one more is held, or the first are not any more
 pub loggable_push : (es : List Entry) (e : Entry) → all_loggable es ≡ true → loggable e ≡ true → all_loggable (es ++ (e ∷ [])) ≡ true

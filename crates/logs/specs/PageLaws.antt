@@ -10,9 +10,9 @@ use Rattle.words.specs.declared.changes.Change.{Change}
 use Rattle.words.specs.declared.changes.Change.TheVariants.{Set, Remove}
 use Rattle.words.specs.declared.changes.Write.{Write}
 use Rattle.words.specs.Bits.{kind_of, load_of, word, value_of, value_load, value_fits, site_of, count_of, head}
-use Rattle.words.specs.Writes.{a_write, change_of, write_of, and_then, leading, change_word, writes_words, change_fits, write_fits}
+use Rattle.words.specs.Writes.{a_write, change_of, write_of, and_then, leading, change_word, writes_words, change_fits, write_fits, all_fit}
 use Rattle.logs.specs.declared.heads.EntryHead.{EntryHead}
-use Rattle.logs.specs.LogModel.{Entry, limit, an_entry, head_of, cost, total_cost, all_fit, loggable, all_loggable}
+use Rattle.logs.specs.LogModel.{Entry, limit, an_entry, head_of, cost, total_cost, loggable, all_loggable}
 use Rattle.logs.specs.PageWords.{page_words, pages_words, begins, page_length, entry_in, entries_in}
 use Rattle.logs.specs.Loggable.{loggable_parts, write_parts, fits_at}
 

@@ -6,9 +6,9 @@ ghost use Rattle.logs.specs.FlatModel.{Made};
 
 use crate::counters::Counters;
 use crate::kept::Kept;
-use crate::limits::is_group;
 use crate::row::FlatEntry;
 use crate::table::Table;
+use words::limits::is_group;
 
 pub type Flat = Kept<Table>;
 

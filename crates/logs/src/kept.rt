@@ -7,8 +7,8 @@ use crate::api::{Declined, Log};
 use crate::counters::Counters;
 use crate::heads::{EntryHead, NewEntry};
 use crate::holder::Holder;
-use crate::limits::LIMIT;
 use words::changes::Write;
+use words::limits::LIMIT;
 
 #[derive(Drop)]
 pub struct Kept<H: Holder> {
@@ -20,9 +20,7 @@ impl<H: Holder> Kept<H> {
     fn can_append(&self, entry: NewEntry<'_>) -> bool
         ensures { result ≡ can_append (H.held self.now.holder) (entry_of entry.entry) }
     {
-        entry.is_loggable()
-            && self.holder.has_room(entry.writes.len())
-            && self.last() < LIMIT
+        entry.is_loggable() && self.holder.has_room(entry.writes.len()) && self.last() < LIMIT
     }
 
     // Appends an entry, or declines.

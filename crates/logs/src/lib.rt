@@ -9,7 +9,6 @@ pub mod heads;
 pub(crate) mod holder;
 pub(crate) mod kept;
 pub mod laws;
-pub(crate) mod limits;
 pub mod packed;
 pub(crate) mod page;
 pub(crate) mod pages;

@@ -6,9 +6,9 @@ ghost use Rattle.logs.specs.PackedModel.{Made};
 
 use crate::counters::Counters;
 use crate::kept::Kept;
-use crate::limits::is_group;
 use crate::pages::Pages;
 use std::alloc::Global;
+use words::limits::is_group;
 
 pub type Packed = Kept<Pages>;
 

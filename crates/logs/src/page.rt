@@ -1,8 +1,8 @@
 // The words of an entry's page.
 ghost use Rattle.std.specs.Prelude.{◌≡◌, ◌+◌, ◌*◌, ◌<◌, ◌≤◌, true, ◌++◌, length};
 ghost use Rattle.words.specs.Bits.{load_of, word, site_of, count_of, head};
-ghost use Rattle.words.specs.Writes.{change_fits, change_word, writes_words};
-ghost use Rattle.logs.specs.LogModel.{entry_of, all_fit, loggable};
+ghost use Rattle.words.specs.Writes.{change_fits, change_word, writes_words, all_fit};
+ghost use Rattle.logs.specs.LogModel.{entry_of, loggable};
 ghost use Rattle.logs.specs.RingModel.{ring_items, ring_size};
 ghost use Rattle.logs.specs.PageWords.{page_words};
 

@@ -7,18 +7,16 @@ ghost use Rattle.logs.specs.CountersModel.{counters_marks};
 
 use super::Counters;
 use crate::copies::overwrite;
-use crate::limits::{LIMIT, are_within};
+use words::limits::{LIMIT, are_within};
 
 // The least of the numbers, of which there is one at least.
 fn least_of(numbers: &[u32]) -> u32
     requires { 0 < length numbers.now }
     ensures { result ≡ least numbers.now }
 {
-    let mut least = numbers[0];
-    for number in numbers {
-        least = least.min(*number);
-    }
-    least
+    numbers
+        .iter()
+        .fold(numbers[0], |least, number| least.min(*number))
 }
 
 impl Counters {
@@ -103,7 +101,7 @@ impl Counters {
     pub(crate) fn close(&mut self, place: u32, known: &[u32])
         ensures { counters_marks self.new ≡ mark_closed (counters_marks self.old) place known.now }
     {
-        if known.len() == self.sites && place <= LIMIT && are_within(known) {
+        if known.len() == self.sites && place <= LIMIT && are_within(known, LIMIT) {
             self.place = place;
             overwrite(&mut self.known, known);
             self.whole = true;

@@ -1,6 +1,5 @@
 use Rattle.std.proofs.Common.{◌≡◌, ◌+◌, ◌*◌, true, ◌++◌, length, drop}
-use Rattle.words.specs.Writes.{writes_words}
-use Rattle.logs.specs.LogModel.{all_fit}
+use Rattle.words.specs.Writes.{writes_words, all_fit}
 use Rattle.logs.specs.RingModel.{ring_items, ring_size}
 use Rattle.logs.proofs.page.push_writes.Given as goal
 

@@ -1,4 +1,4 @@
-use Rattle.std.proofs.Common.{sym, ◌∙◌, arith}
+use Rattle.std.proofs.Common.{arith}
 use Rattle.logs.specs.LogModel.{entry_of}
 use Rattle.logs.specs.TableModel.{table_held}
 use Rattle.logs.specs.Holding.{append_parts}
