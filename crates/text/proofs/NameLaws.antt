@@ -1,14 +1,21 @@
--- How the bytes of a name are tested one by one.
-use Rattle.std.proofs.Common.{◌≡◌, ℕ, ◌+◌, ◌<◌, true, false, ◌&&◌, List, [], ◌∷◌, length, get_or, drop, refl, ap, ◌∙◌, arith}
-use Rattle.std.proofs.lemmas.List.{at_drop_more}
+-- How the bytes of a name are tested.
+use Rattle.std.proofs.Common.{◌≡◌, ℕ, ◌<◌, Bool, true, false, ◌&&◌, ◌||◌, nat_le, List, [], ◌∷◌, length, get_or, drop, refl, arith}
+use Rattle.std.specs.Char.{is_ascii_alphanumeric}
 use Rattle.text.specs.Names.{is_lower, is_letter_or_digit, all_letters_or_digits, is_name}
 
--- one more byte that is a letter or a digit, or the first that is not
-pub all_more : (t : List ℕ) (i : ℕ) → i < length t → is_letter_or_digit (get_or t i 0) ≡ true → all_letters_or_digits (drop i t) ≡ all_letters_or_digits (drop (i + 1) t)
-all_more t i h e = at_drop_more all_letters_or_digits t i 0 h ∙ ap (λ x. x && all_letters_or_digits (drop (i + 1) t)) e
-
-pub all_stop : (t : List ℕ) (i : ℕ) → i < length t → is_letter_or_digit (get_or t i 0) ≡ false → all_letters_or_digits (drop i t) ≡ false
-all_stop t i h e = at_drop_more all_letters_or_digits t i 0 h ∙ ap (λ x. x && all_letters_or_digits (drop (i + 1) t)) e
+-- the library's letters and digits are ours
+pub alphanumeric : (b : ℕ) → is_ascii_alphanumeric b ≡ is_letter_or_digit b
+alphanumeric b = turned (nat_le 48 b && nat_le b 57) (nat_le 65 b && nat_le b 90) (is_lower b)
+  where
+    turned : (x y z : Bool) → ((x || y) || z) ≡ (z || (y || x))
+    turned true true true = refl
+    turned true true false = refl
+    turned true false true = refl
+    turned true false false = refl
+    turned false true true = refl
+    turned false true false = refl
+    turned false false true = refl
+    turned false false false = refl
 
 -- a name by its first byte and the rest
 pub name_parts : (w : List ℕ) → 0 < length w → is_name w ≡ (is_lower (get_or w 0 0) && all_letters_or_digits (drop 1 w))

@@ -1,5 +1,6 @@
 -- Names. A word is the list of its bytes.
-use Rattle.std.specs.Prelude.{ℕ, Bool, true, false, ◌&&◌, ◌||◌, List, [], ◌∷◌, nat_le}
+use Rattle.std.specs.Prelude.{ℕ, Bool, false, ◌&&◌, ◌||◌, List, [], ◌∷◌, nat_le}
+use Rattle.std.specs.List.{list_all}
 
 -- A lower-case letter: a to z.
 abbrev pub is_lower : ℕ → Bool
@@ -11,8 +12,7 @@ is_letter_or_digit b = is_lower b || ((nat_le 65 b && nat_le b 90) || (nat_le 48
 
 -- Whether each byte is a letter or a digit.
 abbrev pub all_letters_or_digits : List ℕ → Bool
-all_letters_or_digits [] = true
-all_letters_or_digits (b ∷ bs) = is_letter_or_digit b && all_letters_or_digits bs
+all_letters_or_digits bs = list_all is_letter_or_digit bs
 
 -- A name is a lower-case letter, then letters and digits.
 abbrev pub is_name : List ℕ → Bool

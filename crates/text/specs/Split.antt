@@ -1,56 +1,57 @@
 -- Lines of a text, and words of a line. A text is the list of its bytes.
-use Rattle.std.specs.Prelude.{◌≡◌, ℕ, ◌+◌, ◌-◌, Bool, false, cond, not, ◌||◌, List, [], ◌∷◌, length, take, drop, ◌==◌}
+use Rattle.std.specs.Prelude.{◌≡◌, ℕ, ◌+◌, ◌-◌, Bool, true, false, cond, not, ◌||◌, List, [], ◌∷◌, length, take, drop, ◌==◌}
 use Rattle.std.specs.Borrow.{Bor}
-use Rattle.std.specs.List.{prefix_len}
-use Rattle.text.specs.declared.split.ByteClass.{ByteClass}
-use Rattle.text.specs.declared.split.ByteClass.TheVariants.{Line, Content, Word, Blank}
+use Rattle.std.specs.List.{position_or_len}
 
 -- Words are parted by blanks: space, tab and carriage return.
 abbrev pub is_blank : ℕ → Bool
 is_blank b = b == 32 || (b == 9 || b == 13)
 
--- A line goes on up to a newline, its content up to a `#`, a word up to a blank.
-abbrev pub in_class : ByteClass → ℕ → Bool
-in_class Line b = not (b == 10)
-in_class Content b = not (b == 35)
-in_class Word b = not (is_blank b)
-in_class Blank b = is_blank b
+-- What a line ends at, what its content ends at, and what blanks end at; a word ends at a blank.
+abbrev pub is_newline : ℕ → Bool
+is_newline b = b == 10
 
--- The longest front of bytes of the class.
-abbrev pub front : ByteClass → List ℕ → List ℕ
-front c t = take (prefix_len (in_class c) t) t
+abbrev pub is_hash : ℕ → Bool
+is_hash b = b == 35
 
--- What follows that front.
-abbrev pub beyond : ByteClass → List ℕ → List ℕ
-beyond c t = drop (prefix_len (in_class c) t) t
+abbrev pub is_of_word : ℕ → Bool
+is_of_word b = not (is_blank b)
+
+-- The text before the first byte that ends a part, all of it where there is none.
+abbrev pub front : (ℕ → Bool) → List ℕ → List ℕ
+front ends t = take (position_or_len ends t) t
+
+-- The text from that byte on.
+abbrev pub beyond : (ℕ → Bool) → List ℕ → List ℕ
+beyond ends t = drop (position_or_len ends t) t
 
 -- The first line, without its newline.
 abbrev pub first_line : List ℕ → List ℕ
-first_line t = front Line t
+first_line t = front is_newline t
 
 -- The text after the first newline.
 abbrev pub after_line : List ℕ → List ℕ
-after_line t = drop 1 (beyond Line t)
+after_line t = drop 1 (beyond is_newline t)
 
 -- A line without its comment.
 abbrev pub content_of : List ℕ → List ℕ
-content_of l = front Content l
+content_of l = front is_hash l
 
 -- The blanks before the first word.
 abbrev pub blanks : List ℕ → List ℕ
-blanks t = front Blank t
+blanks t = front is_of_word t
 
 -- The text from the first word on.
 abbrev pub from_word : List ℕ → List ℕ
-from_word t = beyond Blank t
+from_word t = beyond is_of_word t
 
 -- The first word. It is empty where there is none.
 abbrev pub first_word : List ℕ → List ℕ
-first_word t = front Word (from_word t)
+first_word t = front is_blank (from_word t)
 
 -- The text after the first word.
 abbrev pub after_word : List ℕ → List ℕ
-after_word t = beyond Word (from_word t)
+after_word t = beyond is_blank (from_word t)
 
 -- A byte put before the first of several texts.
 abbrev pub begun : ℕ → List (List ℕ) → List (List ℕ)
@@ -76,6 +77,11 @@ words (b ∷ bs) = cond (is_blank b) (words bs) (cond (in_word bs) (begun b (wor
 abbrev pub led : List ℕ → List (List ℕ) → List (List ℕ)
 led [] ws = []
 led (b ∷ bs) ws = (b ∷ bs) ∷ ws
+
+-- Whether there are no words.
+abbrev pub none_in : List (List ℕ) → Bool
+none_in [] = true
+none_in (w ∷ ws) = false
 
 -- The part is memory of the whole, from its byte n on.
 abbrev pub PartAt : Bor (List ℕ) → ℕ → Bor (List ℕ) → Type 0

@@ -104,6 +104,7 @@ fn hex_digit(word: u32) -> u8
 pub fn hex_digits(word: u32) -> [u8; 8]
     ensures { hex_word_of result ≡ Some word }
 {
+    // Spelled out: what `array::from_fn` and `map` promise of an element does not say which word its call saw.
     [
         hex_digit(word >> 28),
         hex_digit(word >> 24),

@@ -1,59 +1,25 @@
 // Lines of a text, and words of a line.
-ghost use Rattle.std.specs.Prelude.{◌≡◌, ◌+◌, ◌<◌, ◌≤◌, ◌∷◌, length};
-ghost use Rattle.std.specs.List.{prefix_len};
-ghost use Rattle.text.specs.Split.{is_blank, in_class, front, beyond, first_line, after_line, content_of, blanks, first_word, after_word, lines, words, led, PartAt, LastPart};
-
-// The bytes that one part of a text is made of.
-#[derive(Clone, Copy)]
-enum ByteClass {
-    Line,
-    Content,
-    Word,
-    Blank,
-}
+ghost use Rattle.std.specs.Prelude.{◌≡◌, ℕ, ◌+◌, ◌<◌, ◌≤◌, Bool, ◌∷◌, length};
+ghost use Rattle.std.specs.Iterator.{ActsAsAt, YieldsFirstRef, item_count};
+ghost use Rattle.text.specs.Split.{is_blank, front, beyond, first_line, after_line, content_of, blanks, first_word, after_word, lines, words, led, none_in, PartAt, LastPart};
 
 // Whether the byte parts words.
-fn is_blank(byte: u8) -> bool
+fn is_blank_byte(byte: u8) -> bool
     ensures { result ≡ is_blank byte }
 {
     byte == b' ' || byte == b'\t' || byte == b'\r'
 }
 
-// Whether the byte is of the class.
-fn is_in(byte: u8, class: ByteClass) -> bool
-    ensures { result ≡ in_class class byte }
-{
-    match class {
-        ByteClass::Line => byte != b'\n',
-        ByteClass::Content => byte != b'#',
-        ByteClass::Word => !is_blank(byte),
-        ByteClass::Blank => is_blank(byte),
-    }
-}
-
-// How many bytes of the class the text begins with.
-fn count_leading(text: &[u8], class: ByteClass) -> usize
-    ensures value { result ≡ prefix_len (in_class class) text.now }
-    ensures within { result ≤ length text.now }
-{
-    for i in 0..text.len() {
-        if !is_in(text[i], class) {
-            return i;
-        }
-    }
-    text.len()
-}
-
-// The longest front of bytes of the class, and the rest of the text.
-fn split_leading(text: &[u8], class: ByteClass) -> (&[u8], &[u8])
-    ensures front { result.0.now ≡ front class text.now }
-    ensures rest { result.1.now ≡ beyond class text.now }
+// The text up to the first byte that ends the part, and the rest of the text, from that byte on.
+fn split_before<F: FnMut(&u8) -> bool>(text: &[u8], ends: F) -> (&[u8], &[u8])
+    requires { F.IsAlwaysCallable ends }
+    ensures parts { (p : ℕ → Bool) → ActsAsAt F.FnMut ends p → (result.0.now ≡ front p text.now) × (result.1.now ≡ beyond p text.now) }
     ensures whole { length result.0.now + length result.1.now ≡ length text.now }
     ensures front_part { PartAt text.entry 0 result.0 }
     ensures rest_part { PartAt text.entry (length result.0.now) result.1 }
 {
-    let end = count_leading(text, class);
-    (&text[0..end], &text[end..])
+    let end = text.iter().position(ends).unwrap_or(text.len());
+    (&text[..end], &text[end..])
 }
 
 /// The first line without its newline, and the text after that newline. A text with no newline is one line, with nothing after it.
@@ -65,7 +31,7 @@ pub fn next_line(text: &[u8]) -> (&[u8], &[u8])
     ensures line_part { PartAt text.entry 0 result.0 }
     ensures rest_part { LastPart text.entry result.1 }
 {
-    let (line, rest) = split_leading(text, ByteClass::Line);
+    let (line, rest) = split_before(text, |byte| *byte == b'\n');
     match rest {
         [_, after @ ..] => (line, after),
         [] => (line, rest),
@@ -77,7 +43,7 @@ pub fn content(line: &[u8]) -> &[u8]
     ensures value { result.now ≡ content_of line.now }
     ensures part { PartAt line.entry 0 result }
 {
-    let (content, _) = split_leading(line, ByteClass::Content);
+    let (content, _) = split_before(line, |byte| *byte == b'#');
     content
 }
 
@@ -90,6 +56,35 @@ pub fn next_word(text: &[u8]) -> (&[u8], &[u8])
     ensures word_part { PartAt text.entry (length (blanks text.now)) result.0 }
     ensures rest_part { LastPart text.entry result.1 }
 {
-    let (_, from_word) = split_leading(text, ByteClass::Blank);
-    split_leading(from_word, ByteClass::Word)
+    let (_, from_word) = split_before(text, |byte| !is_blank_byte(*byte));
+    split_before(from_word, |byte| is_blank_byte(*byte))
+}
+
+/// Whether the text has no words.
+pub fn is_blank(text: &[u8]) -> bool
+    ensures { result ≡ none_in (words text.now) }
+{
+    let (word, _) = next_word(text);
+    word.is_empty()
+}
+
+/// The words of a text, in order.
+#[derive(Clone, Copy)]
+pub struct Words<'a>(pub &'a [u8]);
+
+impl<'a> Iterator for Words<'a> {
+    type Item = &'a [u8];
+
+    ghost next_gives = { YieldsFirstRef (λ s. words s.0.now) };
+
+    ghost remaining = { item_count (λ s. words s.0.now) };
+
+    fn next(&mut self) -> Option<&'a [u8]> {
+        let (word, rest) = next_word(self.0);
+        if word.is_empty() {
+            return None;
+        }
+        self.0 = rest;
+        Some(word)
+    }
 }

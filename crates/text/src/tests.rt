@@ -1,6 +1,8 @@
+use crate::lines::Lines;
 use crate::names::{is_name, same};
 use crate::numbers::{decimal, hex_digits, hex_word, signed};
-use crate::split::{content, next_line, next_word};
+use crate::split::{Words, content, is_blank, next_line, next_word};
+use std::test::Fail;
 
 #[test]
 fn lines_end_at_newlines(rt: HostRuntime) {
@@ -32,6 +34,28 @@ fn words_are_parted_by_blanks(rt: HostRuntime) {
         let (found, after) = next_word(text);
         assert!(rt; found == word && after == rest);
     }
+}
+
+#[test]
+fn words_come_in_order(rt: HostRuntime) {
+    let mut words = Words(b" one\ttwo\r");
+    assert!(rt; words.next() == Some(b"one".as_slice()));
+    assert!(rt; words.next() == Some(b"two".as_slice()) && words.next().is_none());
+    assert!(rt; is_blank(b"\t \r") && is_blank(b"") && !is_blank(b" # "));
+}
+
+#[test]
+fn lines_without_words_count(rt: HostRuntime) -> Result<(), Fail> {
+    let table: [(u64, &[u8], &[u8]); 2] = [(3, b"one ", b" \nthree"), (5, b"three", b"")];
+    let mut lines = Lines::new(b"# none\n\none # two\n \nthree");
+    for (number, words, after) in table {
+        let Some(line) = lines.next() else {
+            return Err(Fail::new("the text has more lines"));
+        };
+        assert!(rt; line.number == number && line.words == words && line.after == after);
+    }
+    assert!(rt; lines.next().is_none());
+    Ok(())
 }
 
 #[test]
