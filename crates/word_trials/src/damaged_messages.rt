@@ -3,7 +3,7 @@ use crate::examples::{EDIT_WORDS, REPORT_WORDS};
 use crate::respelled::{Form, just_these_turn, no_front_reads, reads_as_its_words};
 use std::alloc::Global;
 use std::test::Fail;
-use words::messages::scene_share_message_kind;
+use words::messages::message_kind;
 
 const VOID: u32 = 0;
 
@@ -13,9 +13,9 @@ const REPORT: u32 = 2;
 
 #[test]
 fn messages_are_told_by_their_kind(rt: HostRuntime) {
-    assert_eq!(rt; scene_share_message_kind(&EDIT_WORDS, 3), EDIT);
-    assert_eq!(rt; scene_share_message_kind(&REPORT_WORDS, 2), REPORT);
-    assert_eq!(rt; scene_share_message_kind(&[], 2), VOID);
+    assert_eq!(rt; message_kind(&EDIT_WORDS, 3), EDIT);
+    assert_eq!(rt; message_kind(&REPORT_WORDS, 2), REPORT);
+    assert_eq!(rt; message_kind(&[], 2), VOID);
 }
 
 #[test]
@@ -61,7 +61,7 @@ fn edit_with(place: usize, word: u32) -> u32 {
     if place < 7 {
         words[place] = word;
     }
-    scene_share_message_kind(&words, 3)
+    message_kind(&words, 3)
 }
 
 #[test]
@@ -100,7 +100,7 @@ fn edit_of(heap: Global, count: u32, removals: u32) -> Result<u32, Fail> {
     for item in 0..removals {
         words.extend_from_slice(&[0x5000_0000 | item, 0x7000_0000])?;
     }
-    Ok(scene_share_message_kind(words.as_slice(), 2))
+    Ok(message_kind(words.as_slice(), 2))
 }
 
 #[test]
@@ -121,27 +121,27 @@ fn edit_has_1_to_16_writes_and_as_many_as_its_head_says(rt: HostRuntime) -> Resu
 #[test]
 fn report_with_a_wrong_word_is_void(rt: HostRuntime) {
     assert_eq!(rt;
-        scene_share_message_kind(&[0x2100_0001, 0x4000_0004], 2),
+        message_kind(&[0x2100_0001, 0x4000_0004], 2),
         VOID,
         "a count"
     );
     assert_eq!(rt;
-        scene_share_message_kind(&[0x2100_0100, 0x4000_0004], 2),
+        message_kind(&[0x2100_0100, 0x4000_0004], 2),
         VOID,
         "a stray bit"
     );
     assert_eq!(rt;
-        scene_share_message_kind(&[0x2200_0000, 0x4000_0004], 2),
+        message_kind(&[0x2200_0000, 0x4000_0004], 2),
         VOID,
         "site 2 of 2"
     );
     assert_eq!(rt;
-        scene_share_message_kind(&[0x2100_0000, 0x3000_0004], 2),
+        message_kind(&[0x2100_0000, 0x3000_0004], 2),
         VOID,
         "a ticket"
     );
     assert_eq!(rt;
-        scene_share_message_kind(&[0x2100_0000, 0x4000_0004, 0], 2),
+        message_kind(&[0x2100_0000, 0x4000_0004, 0], 2),
         VOID,
         "a word more"
     );
@@ -150,9 +150,9 @@ fn report_with_a_wrong_word_is_void(rt: HostRuntime) {
 #[test]
 fn group_has_2_to_8_sites(rt: HostRuntime) {
     let words = [0x2000_0000, 0x4000_0000];
-    assert_eq!(rt; scene_share_message_kind(&words, 0), VOID);
-    assert_eq!(rt; scene_share_message_kind(&words, 1), VOID);
-    assert_eq!(rt; scene_share_message_kind(&words, 2), REPORT);
-    assert_eq!(rt; scene_share_message_kind(&words, 8), REPORT);
-    assert_eq!(rt; scene_share_message_kind(&words, 9), VOID);
+    assert_eq!(rt; message_kind(&words, 0), VOID);
+    assert_eq!(rt; message_kind(&words, 1), VOID);
+    assert_eq!(rt; message_kind(&words, 2), REPORT);
+    assert_eq!(rt; message_kind(&words, 8), REPORT);
+    assert_eq!(rt; message_kind(&words, 9), VOID);
 }

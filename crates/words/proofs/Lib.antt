@@ -1,4 +1,5 @@
 -- Lemmas on words: each file cites only those above it.
+mod KindNumbers
 mod Shifts
 mod Fronts
 mod Every

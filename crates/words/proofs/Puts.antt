@@ -1,46 +1,12 @@
 -- Words put into a buffer from its first word on.
-use Rattle.std.proofs.Common.{◌≡◌, ℕ, zero, suc, ◌+◌, ◌-◌, ◌*◌, ◌<◌, ◌≤◌, true, eqb, ltb, leb, List, [], ◌∷◌, ◌++◌, map, length, get_or, take, drop, set, sym, refl, ap, ◌∙◌, arith}
+use Rattle.std.proofs.Common.{◌≡◌, ℕ, ◌+◌, ◌-◌, ◌*◌, ◌<◌, ◌≤◌, true, List, [], ◌∷◌, ◌++◌, map, length, get_or, take, drop, set, sym, refl, ap, ◌∙◌, arith}
 use borrow.Rule.Slice.PartMut.{put_mid}
 use Rattle.std.proofs.lemmas.List.{append_assoc, append-nil, drop_more, drop_all, set_at, take_more, take_all, length_push, length-take-le, length-map, map_more}
-use Rattle.std.proofs.lemmas.Bool.{le-leb, lt-leb, leb-true, ltb-true, lt-ltb, eqb-true, and_parts, and_from}
+use Rattle.std.proofs.lemmas.Bool.{le-leb, lt-leb}
 use Rattle.words.specs.declared.changes.Write.{Write}
-use Rattle.words.specs.Bits.{word, in_range, is_group, every}
-use Rattle.words.specs.Writes.{change_word, writes_words, change_fits, write_fits, fit_from}
-use Rattle.words.specs.Pages.{a_closing, valid_page}
+use Rattle.words.specs.Bits.{word}
+use Rattle.words.specs.Writes.{change_word, writes_words}
 use Rattle.words.specs.Encoded.{wrote, refused, put_answer, put_after}
-use Rattle.words.proofs.Codes.{fits_parts}
-
--- numbers within a limit that a load holds
-all_fit : (limit : ℕ) (ks : List ℕ) → limit < 268435456 → every (λ k. leb k limit) ks ≡ true → every (in_range 0) ks ≡ true
-all_fit limit [] h e = refl
-all_fit limit (k ∷ ks) h e =
-    let a = and_parts (leb k limit) (every (λ x. leb x limit) ks) e in
-    let b = leb-true k limit a.0 in
-    and_from _ _ (and_from _ _ (le-leb 0 k (omega arith)) (lt-ltb k 268435456 (omega arith))) (all_fit limit ks h a.1)
-
--- the known numbers of a closing page: one for each site, and a load holds each
-pub known_many : (n v d : ℕ) (ks : List ℕ) → valid_page n (a_closing v d ks) ≡ true → length ks ≡ n
-known_many n v d ks e = eqb-true (length ks) n (and_parts (eqb (length ks) n) _ (and_parts (is_group n) _ e).1).0
-
-pub known_fit : (n v d : ℕ) (ks : List ℕ) → valid_page n (a_closing v d ks) ≡ true → every (in_range 0) ks ≡ true
-known_fit n v d ks e =
-    let a = and_parts (in_range v d) (every (λ k. leb k v) ks) (and_parts (eqb (length ks) n) _ (and_parts (is_group n) _ e).1).1 in
-    let b = and_parts (leb v d) (ltb d 268435456) a.0 in
-    let low = leb-true v d b.0 in
-    let high = ltb-true d 268435456 b.1 in
-    all_fit v ks (omega arith) a.1
-
-pub known_at : (ks : List ℕ) (i d : ℕ) → every (in_range 0) ks ≡ true → i < length ks → get_or ks i d < 268435456
-known_at [] i d e h = absurd (omega arith)
-known_at (k ∷ ks) zero d e h = ltb-true k 268435456 (and_parts (leb 0 k) _ (and_parts (in_range 0 k) _ e).0).1
-known_at (k ∷ ks) (suc i) d e h = known_at ks i d (and_parts (in_range 0 k) _ e).1 (omega arith)
-
--- each of the writes is in range
-pub fit_at : (low : ℕ) (l : List Write) (i : ℕ) (d : Write) → fit_from low l ≡ true → i < length l →
-    ((get_or l i d).item < 268435456) × (change_fits (get_or l i d).change ≡ true)
-fit_at low [] i d f h = absurd (omega arith)
-fit_at low (w ∷ l) zero d f h = let p = fits_parts low w (and_parts (write_fits low w) _ f).0 in (p.1, p.2)
-fit_at low (w ∷ l) (suc i) d f h = fit_at (suc w.item) l i d (and_parts (write_fits low w) _ f).1 (omega arith)
 
 pub length_writes : (l : List Write) → length (writes_words l) ≡ 2 * length l
 length_writes [] = refl

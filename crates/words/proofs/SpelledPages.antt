@@ -4,6 +4,7 @@ use Rattle.std.proofs.lemmas.Bool.{le-leb, leb-true, ltb-true, lt-ltb, eqb-true,
 use Rattle.words.specs.declared.changes.Write.{Write}
 use Rattle.words.specs.Bits.{in_range, is_group, every}
 use Rattle.words.specs.Writes.{change_fits, write_fits, all_fit, fit_from, valid_writes}
+use Rattle.words.specs.Messages.{an_edit, valid_message}
 use Rattle.words.specs.Pages.{PageValue, an_entry, a_closing, has_words, valid_page}
 use Rattle.words.proofs.Codes.{fits_parts}
 
@@ -27,15 +28,22 @@ fit_at [] i d f h = absurd (omega arith)
 fit_at (w ∷ l) zero d f h = let p = fits_parts 0 w (and_parts (write_fits 0 w) _ f).0 in (p.1, p.2)
 fit_at (w ∷ l) (suc i) d f h = fit_at l i d (and_parts (write_fits 0 w) _ f).1 (omega arith)
 
-pub rising_fit : (low : ℕ) (l : List Write) → fit_from low l ≡ true → all_fit l ≡ true
+rising_fit : (low : ℕ) (l : List Write) → fit_from low l ≡ true → all_fit l ≡ true
 rising_fit low [] f = refl
 rising_fit low (w ∷ l) f =
     let a = and_parts (write_fits low w) _ f in
     let b = and_parts (leb low w.item) _ a.0 in
     and_from _ _ (and_from _ _ (le-leb 0 w.item (omega arith)) b.1) (rising_fit (suc w.item) l a.1)
 
-pub valid_fit : (l : List Write) → valid_writes l ≡ true → all_fit l ≡ true
+valid_fit : (l : List Write) → valid_writes l ≡ true → all_fit l ≡ true
 valid_fit l v = rising_fit 0 l (and_parts (leb (length l) 16) _ (and_parts (leb 1 (length l)) _ v).1).1
+
+-- the writes of an edit that a group has are in range
+pub edit_fit : (n s t v : ℕ) (l : List Write) → valid_message n (an_edit s t v l) ≡ true → all_fit l ≡ true
+edit_fit n s t v l e =
+    let a = and_parts (ltb s n) _ (and_parts (is_group n) _ e).1 in
+    let b = and_parts (in_range 1 t) _ a.1 in
+    valid_fit l (and_parts (in_range 0 v) _ b.1).1
 
 -- a number that a load holds, by a lower bound
 from_zero : (low x : ℕ) → in_range low x ≡ true → in_range 0 x ≡ true

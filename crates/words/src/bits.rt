@@ -1,35 +1,66 @@
 // One word: its kind in the top four bits, its load in the low 28.
-ghost use Rattle.std.specs.Prelude.{◌≡◌, ◌^◌, ◌<◌, true};
+ghost use Rattle.std.specs.Prelude.{◌≡◌, ◌^◌, ◌<◌, true, ◌==◌};
 ghost use Rattle.words.specs.Bits.{kind_of, load_of, word, value_of, value_load, value_fits, site_of, count_of, clear_between, head, is_number, in_range};
+ghost use Rattle.words.specs.Kinds.{kind_number, kind_numbered};
 
 use crate::limits::LIMIT;
 
-pub(crate) const EDIT: u32 = 1;
+/// What a word is, by its number in the top four bits.
+#[derive(Clone, Copy, PartialEq, Eq, Debug)]
+pub(crate) enum Kind {
+    Edit = 1,
+    Report = 2,
+    Ticket = 3,
+    Version = 4,
+    Item = 5,
+    Value = 6,
+    Removal = 7,
+    Entry = 8,
+    Closing = 9,
+    Place = 10,
+    Known = 11,
+}
 
-pub(crate) const REPORT: u32 = 2;
+impl Kind {
+    fn number(self) -> u32
+        ensures { result ≡ kind_number self }
+    {
+        self as u32
+    }
 
-pub(crate) const TICKET: u32 = 3;
+    // The kind that has the number, if any.
+    pub(crate) fn numbered(number: u32) -> Option<Kind>
+        ensures { result ≡ kind_numbered number }
+    {
+        match number {
+            1 => Some(Kind::Edit),
+            2 => Some(Kind::Report),
+            3 => Some(Kind::Ticket),
+            4 => Some(Kind::Version),
+            5 => Some(Kind::Item),
+            6 => Some(Kind::Value),
+            7 => Some(Kind::Removal),
+            8 => Some(Kind::Entry),
+            9 => Some(Kind::Closing),
+            10 => Some(Kind::Place),
+            11 => Some(Kind::Known),
+            _ => None,
+        }
+    }
+}
 
-pub(crate) const VERSION: u32 = 4;
-
-pub(crate) const ITEM: u32 = 5;
-
-pub(crate) const VALUE: u32 = 6;
-
-pub(crate) const REMOVAL: u32 = 7;
-
-pub(crate) const ENTRY: u32 = 8;
-
-pub(crate) const CLOSING: u32 = 9;
-
-pub(crate) const PLACE: u32 = 10;
-
-pub(crate) const KNOWN: u32 = 11;
-
-pub(crate) fn kind(word: u32) -> u32
-    ensures { result ≡ kind_of word }
+// The kind of a word, if any.
+pub(crate) fn word_kind(word: u32) -> Option<Kind>
+    ensures { result ≡ kind_numbered (kind_of word) }
 {
-    word >> 28
+    Kind::numbered(word >> 28)
+}
+
+// Whether the word is of that kind.
+pub(crate) fn has_kind(word: u32, of: Kind) -> bool
+    ensures { result ≡ (kind_of word == kind_number of) }
+{
+    word >> 28 == of.number()
 }
 
 /// The number in a word's low 28 bits.
@@ -61,10 +92,10 @@ pub(crate) fn is_clear_between(head: u32) -> bool
 }
 
 // Whether the word is of that kind, with a load that is not below the least.
-pub(crate) fn is_kind(word: u32, of: u32, least: u32) -> bool
-    ensures { result ≡ is_number of least word }
+pub(crate) fn is_kind(word: u32, of: Kind, least: u32) -> bool
+    ensures { result ≡ is_number (kind_number of) least word }
 {
-    kind(word) == of && least <= load(word)
+    has_kind(word, of) && least <= load(word)
 }
 
 // Whether a load holds the number, which is not below the least.
@@ -105,19 +136,17 @@ pub(crate) fn value_bits(value: i32) -> u32
     }
 }
 
-pub(crate) fn make_word(kind: u32, load: u32) -> u32
-    requires kind { kind < 16 }
-    requires load { load < 2 ^ 28 }
-    ensures { result ≡ word kind load }
+pub(crate) fn make_word(kind: Kind, load: u32) -> u32
+    requires { load < 2 ^ 28 }
+    ensures { result ≡ word (kind_number kind) load }
 {
-    (kind << 28) | load
+    (kind.number() << 28) | load
 }
 
-pub(crate) fn make_head(kind: u32, site: u32, count: u32) -> u32
-    requires kind { kind < 16 }
+pub(crate) fn make_head(kind: Kind, site: u32, count: u32) -> u32
     requires site { site < 16 }
     requires count { count < 256 }
-    ensures { result ≡ head kind site count }
+    ensures { result ≡ head (kind_number kind) site count }
 {
     make_word(kind, (site << 24) | count)
 }

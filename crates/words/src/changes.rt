@@ -2,7 +2,7 @@
 ghost use Rattle.std.specs.Prelude.{◌≡◌, ◌+◌, true, is_some, IfOk, if◌then◌else◌};
 ghost use Rattle.words.specs.Writes.{change_of, first_write, after_write, leading, change_word, change_fits, write_fits, all_fit, fit_from, valid_writes};
 
-use crate::bits::{ITEM, REMOVAL, VALUE, fits, is_value, kind, load, make_word, value, value_bits};
+use crate::bits::{Kind, fits, has_kind, is_value, load, make_word, value, value_bits, word_kind};
 use std::alloc::{AllocError, Global};
 
 #[derive(Clone, Copy, PartialEq, Eq, Debug)]
@@ -21,12 +21,10 @@ pub struct Write {
 pub(crate) fn read_change(word: u32) -> Option<Change>
     ensures { result ≡ change_of word }
 {
-    if kind(word) == VALUE {
-        Some(Change::Set(value(load(word))))
-    } else if word == 0x7000_0000 {
-        Some(Change::Remove)
-    } else {
-        None
+    match word_kind(word) {
+        Some(Kind::Value) => Some(Change::Set(value(load(word)))),
+        Some(Kind::Removal) if load(word) == 0 => Some(Change::Remove),
+        _ => None,
     }
 }
 
@@ -39,7 +37,7 @@ pub fn read_write(words: &[u32]) -> (Option<Write>, &[u32])
     let [item, change, rest @ ..] = words else {
         return (None, words);
     };
-    if kind(*item) != ITEM {
+    if !has_kind(*item, Kind::Item) {
         return (None, words);
     }
     match read_change(*change) {
@@ -73,8 +71,8 @@ pub(crate) fn change_bits(change: Change) -> u32
     ensures { result ≡ change_word change }
 {
     match change {
-        Change::Set(value) => make_word(VALUE, value_bits(value)),
-        Change::Remove => make_word(REMOVAL, 0),
+        Change::Set(value) => make_word(Kind::Value, value_bits(value)),
+        Change::Remove => make_word(Kind::Removal, 0),
     }
 }
 

@@ -1,16 +1,14 @@
 // Messages and pages, written as words from a buffer's first word on.
-ghost use Rattle.std.specs.Prelude.{◌≡◌, ◌*◌, ◌≤◌, true, ◌&&◌, ◌∷◌, ◌++◌, map, length, take, drop, IfOk, Some, nat_lt};
-ghost use Rattle.words.specs.Bits.{word, every, in_range, is_group};
-ghost use Rattle.words.specs.Writes.{writes_words, fit_from, valid_writes};
+ghost use Rattle.std.specs.Prelude.{◌≡◌, ◌&&◌, take, IfOk, Some, nat_lt};
+ghost use Rattle.words.specs.Bits.{is_group};
 ghost use Rattle.words.specs.Messages.{message_words, valid_message, message_of};
 ghost use Rattle.words.specs.Pages.{page_words, valid_page, page_of};
 ghost use Rattle.words.specs.Encoded.{refusal_number, reply, put_answer, put_after, edit_value, report_value, entry_value, closing_value};
 
-use crate::bits::{
-    CLOSING, EDIT, ENTRY, ITEM, KNOWN, PLACE, REPORT, TICKET, VERSION, fits, make_head, make_word,
-};
-use crate::changes::{Write, are_valid, change_bits};
+use crate::bits::{Kind, fits, make_head, make_word};
+use crate::changes::{Write, are_valid};
 use crate::limits::{are_within, is_group};
+use crate::put::{put_closing, put_entry, put_with_writes};
 
 /// Why no words were written: what was handed in is none of the group, or the buffer is too short for its words.
 #[derive(Clone, Copy, PartialEq, Eq, Debug)]
@@ -116,41 +114,6 @@ impl ClosingParts<'_> {
     }
 }
 
-// The words of the writes, from the buffer's first word on.
-fn put_writes(out: &mut [u32], writes: &[Write])
-    requires room { 2 * length writes.now ≤ length out.old }
-    requires fit { fit_from 0 writes.now ≡ true }
-    ensures { out.new ≡ writes_words writes.now ++ drop (2 * length writes.now) out.old }
-{
-    for (i, write) in writes.iter().enumerate() {
-        out[2 * i] = make_word(ITEM, write.item);
-        out[2 * i + 1] = change_bits(write.change);
-    }
-}
-
-// Three words and then those of the writes, from the buffer's first word on.
-fn put_with_writes(
-    out: &mut [u32],
-    head: u32,
-    second: u32,
-    third: u32,
-    writes: &[Write],
-) -> Result<usize, Refusal>
-    requires { valid_writes writes.now ≡ true }
-    ensures answer { reply result ≡ put_answer true (head ∷ (second ∷ (third ∷ writes_words writes.now))) out.old }
-    ensures after { out.new ≡ put_after true (head ∷ (second ∷ (third ∷ writes_words writes.now))) out.old }
-{
-    let count = 3 + 2 * writes.len();
-    if out.len() < count {
-        return Err(Refusal::TooShort);
-    }
-    out[0] = head;
-    out[1] = second;
-    out[2] = third;
-    put_writes(&mut out[3..], writes);
-    Ok(count)
-}
-
 /// Writes an edit of a group of `sites` sites from the buffer's first word on, leaves the rest of the
 /// buffer, and answers how many words it wrote. Where it refuses, the buffer is as it was.
 pub fn write_edit(out: &mut [u32], sites: u32, edit: EditParts<'_>) -> Result<usize, Refusal>
@@ -161,9 +124,9 @@ pub fn write_edit(out: &mut [u32], sites: u32, edit: EditParts<'_>) -> Result<us
     if !edit.is_valid(sites) {
         return Err(Refusal::OutOfRange);
     }
-    let head = make_head(EDIT, edit.site, edit.writes.len() as u32);
-    let ticket = make_word(TICKET, edit.ticket);
-    let snapshot = make_word(VERSION, edit.snapshot);
+    let head = make_head(Kind::Edit, edit.site, edit.writes.len() as u32);
+    let ticket = make_word(Kind::Ticket, edit.ticket);
+    let snapshot = make_word(Kind::Version, edit.snapshot);
     put_with_writes(out, head, ticket, snapshot, edit.writes)
 }
 
@@ -179,8 +142,8 @@ pub fn write_report(out: &mut [u32], sites: u32, report: ReportParts) -> Result<
     if out.len() < 2 {
         return Err(Refusal::TooShort);
     }
-    out[0] = make_head(REPORT, report.site, 0);
-    out[1] = make_word(VERSION, report.version);
+    out[0] = make_head(Kind::Report, report.site, 0);
+    out[1] = make_word(Kind::Version, report.version);
     Ok(2)
 }
 
@@ -193,21 +156,7 @@ pub fn write_entry(out: &mut [u32], sites: u32, entry: EntryParts<'_>) -> Result
     if !entry.is_valid(sites) {
         return Err(Refusal::OutOfRange);
     }
-    let head = make_head(ENTRY, entry.site, entry.writes.len() as u32);
-    let version = make_word(VERSION, entry.version);
-    let ticket = make_word(TICKET, entry.ticket);
-    put_with_writes(out, head, version, ticket, entry.writes)
-}
-
-// The words of known numbers, from the buffer's first word on.
-fn put_known(out: &mut [u32], known: &[u32])
-    requires room { length known.now ≤ length out.old }
-    requires fit { every (in_range 0) known.now ≡ true }
-    ensures { out.new ≡ map (word 11) known.now ++ drop (length known.now) out.old }
-{
-    for (i, number) in known.iter().enumerate() {
-        out[i] = make_word(KNOWN, *number);
-    }
+    put_entry(out, entry)
 }
 
 /// Writes a closing page of a group of `sites` sites, as `write_edit` writes an edit.
@@ -223,13 +172,5 @@ pub fn write_closing(
     if !closing.is_valid(sites) {
         return Err(Refusal::OutOfRange);
     }
-    let count = 3 + closing.known.len();
-    if out.len() < count {
-        return Err(Refusal::TooShort);
-    }
-    out[0] = make_word(CLOSING, sites);
-    out[1] = make_word(VERSION, closing.version);
-    out[2] = make_word(PLACE, closing.place);
-    put_known(&mut out[3..], closing.known);
-    Ok(count)
+    put_closing(out, closing)
 }

@@ -11,5 +11,6 @@ pub mod encode;
 pub mod limits;
 pub mod messages;
 pub mod pages;
+pub(crate) mod put;
 pub mod scan;
 pub mod spell;

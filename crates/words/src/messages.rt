@@ -1,12 +1,11 @@
 // Messages: edits and reports, read from words.
 ghost use Rattle.std.specs.Prelude.{◌≡◌};
 ghost use Rattle.std.specs.Option.{option_map};
+ghost use Rattle.words.specs.Kinds.{kind_number};
 ghost use Rattle.words.specs.Writes.{heads};
 ghost use Rattle.words.specs.Messages.{message_words, valid_message, edit_fits, read_edit, report_fits, read_report, message_of, message_value, Borrowed, OneSpelling, message_kind};
 
-use crate::bits::{
-    EDIT, REPORT, TICKET, VERSION, count, is_clear_between, is_kind, kind, load, site,
-};
+use crate::bits::{Kind, count, has_kind, is_clear_between, is_kind, load, site, word_kind};
 use crate::limits::is_group;
 use crate::scan::holds_writes;
 
@@ -26,10 +25,10 @@ pub enum Message<'a> {
 }
 
 // Whether the head is of that kind, for 1 to 16 writes, and the words are these writes.
-pub(crate) fn is_head_of(head: u32, of: u32, sites: u32, writes: &[u32]) -> bool
-    ensures { result ≡ heads sites of head writes.now }
+pub(crate) fn is_head_of(head: u32, of: Kind, sites: u32, writes: &[u32]) -> bool
+    ensures { result ≡ heads sites (kind_number of) head writes.now }
 {
-    kind(head) == of
+    has_kind(head, of)
         && is_clear_between(head)
         && site(head) < sites
         && 1 <= count(head)
@@ -41,9 +40,9 @@ pub(crate) fn is_head_of(head: u32, of: u32, sites: u32, writes: &[u32]) -> bool
 fn is_edit(head: u32, ticket: u32, snapshot: u32, writes: &[u32], sites: u32) -> bool
     ensures { result ≡ edit_fits sites head ticket snapshot writes.now }
 {
-    is_kind(ticket, TICKET, 1)
-        && is_kind(snapshot, VERSION, 0)
-        && is_head_of(head, EDIT, sites, writes)
+    is_kind(ticket, Kind::Ticket, 1)
+        && is_kind(snapshot, Kind::Version, 0)
+        && is_head_of(head, Kind::Edit, sites, writes)
 }
 
 fn read_edit<'a>(words: &'a [u32], sites: u32) -> Option<Message<'a>>
@@ -68,11 +67,11 @@ fn read_edit<'a>(words: &'a [u32], sites: u32) -> Option<Message<'a>>
 fn is_report(head: u32, version: u32, sites: u32) -> bool
     ensures { result ≡ report_fits sites head version }
 {
-    kind(head) == REPORT
+    has_kind(head, Kind::Report)
         && is_clear_between(head)
         && count(head) == 0
         && site(head) < sites
-        && is_kind(version, VERSION, 0)
+        && is_kind(version, Kind::Version, 0)
 }
 
 fn read_report<'a>(words: &'a [u32], sites: u32) -> Option<Message<'a>>
@@ -103,16 +102,15 @@ pub fn read_message<'a>(words: &'a [u32], sites: u32) -> Option<Message<'a>>
     let [head, ..] = words else {
         return None;
     };
-    match kind(*head) {
-        EDIT => read_edit(words, sites),
-        REPORT => read_report(words, sites),
+    match word_kind(*head) {
+        Some(Kind::Edit) => read_edit(words, sites),
+        Some(Kind::Report) => read_report(words, sites),
         _ => None,
     }
 }
 
-/// For an editor written in C: 1 for an edit, 2 for a report, 0 for words that are no message or `sites` out of range.
-#[unsafe(no_mangle)]
-pub extern "C" fn scene_share_message_kind(words: &[u32], sites: u32) -> u32
+/// Which message the words are, as a program in C is told: 1 an edit, 2 a report, 0 neither, or `sites` is out of range.
+pub fn message_kind(words: &[u32], sites: u32) -> u32
     ensures { result ≡ message_kind (message_of sites words.now) }
 {
     match read_message(words, sites) {

@@ -5,7 +5,7 @@ ghost use Rattle.words.specs.Bits.{every, load_of};
 ghost use Rattle.words.specs.Messages.{OneSpelling};
 ghost use Rattle.words.specs.Pages.{page_words, valid_page, entry_fits, read_entry, known_fits, closing_fits, read_closing, page_of, page_value, PageBorrowed};
 
-use crate::bits::{CLOSING, ENTRY, KNOWN, PLACE, TICKET, VERSION, is_kind, kind, load, site};
+use crate::bits::{Kind, has_kind, is_kind, load, site, word_kind};
 use crate::limits::is_group;
 use crate::messages::is_head_of;
 
@@ -29,9 +29,9 @@ pub enum Page<'a> {
 fn is_entry(head: u32, version: u32, ticket: u32, writes: &[u32], sites: u32) -> bool
     ensures { result ≡ entry_fits sites head version ticket writes.now }
 {
-    is_kind(version, VERSION, 1)
-        && is_kind(ticket, TICKET, 1)
-        && is_head_of(head, ENTRY, sites, writes)
+    is_kind(version, Kind::Version, 1)
+        && is_kind(ticket, Kind::Ticket, 1)
+        && is_head_of(head, Kind::Entry, sites, writes)
 }
 
 fn read_entry<'a>(words: &'a [u32], sites: u32) -> Option<Page<'a>>
@@ -63,29 +63,24 @@ pub fn known_number(word: u32) -> u32
 fn is_known(word: u32, limit: u32) -> bool
     ensures { result ≡ known_fits limit word }
 {
-    kind(word) == KNOWN && load(word) <= limit
+    has_kind(word, Kind::Known) && load(word) <= limit
 }
 
 // Whether the words are known numbers, none above the limit.
 fn are_known(words: &[u32], limit: u32) -> bool
     ensures { result ≡ every (known_fits limit) words.now }
 {
-    for word in words {
-        if !is_known(*word, limit) {
-            return false;
-        }
-    }
-    true
+    words.iter().all(|word| is_known(*word, limit))
 }
 
 // Whether these words are a closing page.
 fn is_closing(head: u32, version: u32, place: u32, known: &[u32], sites: u32) -> bool
     ensures { result ≡ closing_fits sites head version place known.now }
 {
-    kind(head) == CLOSING
+    has_kind(head, Kind::Closing)
         && load(head) == sites
-        && is_kind(version, VERSION, 0)
-        && is_kind(place, PLACE, load(version))
+        && is_kind(version, Kind::Version, 0)
+        && is_kind(place, Kind::Place, load(version))
         && known.len() == sites as usize
         && are_known(known, load(version))
 }
@@ -119,9 +114,9 @@ pub fn read_page<'a>(words: &'a [u32], sites: u32) -> Option<Page<'a>>
     let [head, ..] = words else {
         return None;
     };
-    match kind(*head) {
-        ENTRY => read_entry(words, sites),
-        CLOSING => read_closing(words, sites),
+    match word_kind(*head) {
+        Some(Kind::Entry) => read_entry(words, sites),
+        Some(Kind::Closing) => read_closing(words, sites),
         _ => None,
     }
 }

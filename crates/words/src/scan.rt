@@ -3,7 +3,7 @@ ghost use Rattle.std.specs.Prelude.{◌≡◌, ◌+◌, length, is_some, if◌th
 ghost use Rattle.words.specs.Scans.{word_at, place_after, write_at};
 ghost use Rattle.words.specs.Writes.{are_writes};
 
-use crate::bits::{ITEM, kind, load};
+use crate::bits::{Kind, has_kind, load};
 use crate::changes::{Write, read_change};
 
 /// Words, and the place of the next one to read.
@@ -72,7 +72,7 @@ impl<'a> Reader<'a> {
         };
         let item = next_word(self.words, trial.place)?;
         let change = next_word(self.words, trial.place)?;
-        if kind(item) != ITEM {
+        if !has_kind(item, Kind::Item) {
             return None;
         }
         let change = read_change(change)?;

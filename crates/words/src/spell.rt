@@ -1,16 +1,13 @@
 // The words of pages, written whether or not a group has such a page: where words can hold the numbers.
-ghost use Rattle.std.specs.Prelude.{◌≡◌, ◌*◌, ◌≤◌, true, ◌∷◌, ◌++◌, map, length, drop, nat_le};
-ghost use Rattle.words.specs.Bits.{word, every};
-ghost use Rattle.words.specs.Writes.{writes_words, all_fit};
+ghost use Rattle.std.specs.Prelude.{◌≡◌};
 ghost use Rattle.words.specs.Pages.{page_words, has_words};
 ghost use Rattle.words.specs.Encoded.{reply, put_answer, put_after, entry_value, closing_value};
 
-use crate::bits::{
-    CLOSING, ENTRY, ITEM, KNOWN, PLACE, TICKET, VERSION, fits, make_head, make_word,
-};
-use crate::changes::{Write, all_fit, change_bits};
+use crate::bits::fits;
+use crate::changes::all_fit;
 use crate::encode::{ClosingParts, EntryParts, Refusal};
 use crate::limits::{LIMIT, are_within};
+use crate::put::{put_closing, put_entry};
 
 impl EntryParts<'_> {
     // Whether words can hold its numbers.
@@ -37,53 +34,6 @@ impl ClosingParts<'_> {
     }
 }
 
-// The words of the writes, from the buffer's first word on.
-fn put_writes(out: &mut [u32], writes: &[Write])
-    requires room { 2 * length writes.now ≤ length out.old }
-    requires fit { all_fit writes.now ≡ true }
-    ensures { out.new ≡ writes_words writes.now ++ drop (2 * length writes.now) out.old }
-{
-    for (i, write) in writes.iter().enumerate() {
-        out[2 * i] = make_word(ITEM, write.item);
-        out[2 * i + 1] = change_bits(write.change);
-    }
-}
-
-// Three words and then those of the writes, from the buffer's first word on.
-fn put_with_writes(
-    out: &mut [u32],
-    head: u32,
-    second: u32,
-    third: u32,
-    writes: &[Write],
-) -> Result<usize, Refusal>
-    requires { all_fit writes.now ≡ true }
-    ensures answer { reply result ≡ put_answer true (head ∷ (second ∷ (third ∷ writes_words writes.now))) out.old }
-    ensures after { out.new ≡ put_after true (head ∷ (second ∷ (third ∷ writes_words writes.now))) out.old }
-{
-    let count = 3 + 2 * writes.len();
-    if out.len() < count {
-        return Err(Refusal::TooShort);
-    }
-    out[0] = head;
-    out[1] = second;
-    out[2] = third;
-    put_writes(&mut out[3..], writes);
-    Ok(count)
-}
-
-// The words of an entry page, from the buffer's first word on.
-fn put_entry(out: &mut [u32], entry: EntryParts<'_>) -> Result<usize, Refusal>
-    requires { has_words (entry_value entry) ≡ true }
-    ensures answer { reply result ≡ put_answer true (page_words (entry_value entry.entry)) out.old }
-    ensures after { out.new ≡ put_after true (page_words (entry_value entry.entry)) out.old }
-{
-    let head = make_head(ENTRY, entry.site, entry.writes.len() as u32);
-    let version = make_word(VERSION, entry.version);
-    let ticket = make_word(TICKET, entry.ticket);
-    put_with_writes(out, head, version, ticket, entry.writes)
-}
-
 /// Writes the words of an entry page, whether or not a group has such a page. Refuses, and leaves the buffer, where words
 /// cannot hold its numbers or the buffer is too short.
 pub fn spell_entry(out: &mut [u32], entry: EntryParts<'_>) -> Result<usize, Refusal>
@@ -94,34 +44,6 @@ pub fn spell_entry(out: &mut [u32], entry: EntryParts<'_>) -> Result<usize, Refu
         return Err(Refusal::OutOfRange);
     }
     put_entry(out, entry)
-}
-
-// The words of known numbers, from the buffer's first word on.
-fn put_known(out: &mut [u32], known: &[u32])
-    requires room { length known.now ≤ length out.old }
-    requires fit { every (λ k. nat_le k 268435455) known.now ≡ true }
-    ensures { out.new ≡ map (word 11) known.now ++ drop (length known.now) out.old }
-{
-    for (i, number) in known.iter().enumerate() {
-        out[i] = make_word(KNOWN, *number);
-    }
-}
-
-// The words of a closing page, from the buffer's first word on.
-fn put_closing(out: &mut [u32], closing: ClosingParts<'_>) -> Result<usize, Refusal>
-    requires { has_words (closing_value closing) ≡ true }
-    ensures answer { reply result ≡ put_answer true (page_words (closing_value closing.entry)) out.old }
-    ensures after { out.new ≡ put_after true (page_words (closing_value closing.entry)) out.old }
-{
-    let count = 3 + closing.known.len();
-    if out.len() < count {
-        return Err(Refusal::TooShort);
-    }
-    out[0] = make_word(CLOSING, closing.known.len() as u32);
-    out[1] = make_word(VERSION, closing.version);
-    out[2] = make_word(PLACE, closing.place);
-    put_known(&mut out[3..], closing.known);
-    Ok(count)
 }
 
 /// Writes the words of a closing page, as `spell_entry` writes those of an entry page.

@@ -1,8 +1,12 @@
 use Rattle.std.proofs.Common.{sym, refl, ◌∙◌}
 use Rattle.words.specs.Encoded.{edit_value}
 use Rattle.words.proofs.Spellings.{same_cons}
+use Rattle.words.proofs.SpelledPages.{edit_fit}
 use Rattle.words.proofs.ReadsBack.{message_written}
 use Rattle.words.proofs.encode.write_edit.Goals as goal
+
+pub put_with_writes-requires : goal.put_with_writes-requires
+put_with_writes-requires c = edit_fit c.args.sites c.args.edit.site c.args.edit.ticket c.args.edit.snapshot c.args.edit.writes.now (sym c.is_valid.ensures ∙ c.if-not-is_valid.false)
 
 pub returns : goal.returns
 returns c =

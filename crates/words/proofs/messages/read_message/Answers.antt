@@ -1,16 +1,20 @@
-use Rattle.std.proofs.Common.{sym, ◌∙◌, arith}
-use Rattle.words.proofs.FirstWord.{as_edit, as_report}
+use Rattle.std.proofs.Common.{◌≡◌, None, Option, rules}
+use Rattle.std.specs.Option.{option_map}
+use Rattle.words.specs.Messages.{MessageValue, message_of, message_value}
 use Rattle.words.proofs.MessageSpelling.{message_spelling}
 use Rattle.words.proofs.messages.read_message.Goals as goal
 
-pub returns-in-1 : goal.returns-in-1
-returns-in-1 c =
-    let ws = c.args.words.now in
-    let e = c.read_edit.ensures.message ∙ as_edit c.args.sites ws (sym c.is_group.ensures ∙ c.if-not-is_group.false) (omega arith) in
-    record { message = e; borrowed = c.read_edit.ensures.borrowed; exact = rw e (message_spelling c.args.sites ws) }
+pub returns-in-Some-Edit-clause-exact : goal.returns-in-Some-Edit-clause-exact
+returns-in-Some-Edit-clause-exact c =
+    let e : option_map message_value c.read_edit.result ≡ message_of c.args.sites c.args.words.now = search rules in
+    rw e (message_spelling c.args.sites c.args.words.now)
 
-pub returns-in-2 : goal.returns-in-2
-returns-in-2 c =
-    let ws = c.args.words.now in
-    let e = c.read_report.ensures.message ∙ as_report c.args.sites ws (sym c.is_group.ensures ∙ c.if-not-is_group.false) (omega arith) in
-    record { message = e; borrowed = c.read_report.ensures.borrowed; exact = rw e (message_spelling c.args.sites ws) }
+pub returns-in-Some-Report-clause-exact : goal.returns-in-Some-Report-clause-exact
+returns-in-Some-Report-clause-exact c =
+    let e : option_map message_value c.read_report.result ≡ message_of c.args.sites c.args.words.now = search rules in
+    rw e (message_spelling c.args.sites c.args.words.now)
+
+pub returns-in_default-word_kind-clause-exact : goal.returns-in_default-word_kind-clause-exact
+returns-in_default-word_kind-clause-exact c =
+    let e : ◌≡◌ {A = Option MessageValue} None (message_of c.args.sites c.args.words.now) = search rules in
+    rw e (message_spelling c.args.sites c.args.words.now)

@@ -1,16 +1,20 @@
-use Rattle.std.proofs.Common.{sym, ◌∙◌, arith}
-use Rattle.words.proofs.FirstWord.{as_entry, as_closing}
+use Rattle.std.proofs.Common.{◌≡◌, None, Option, rules}
+use Rattle.std.specs.Option.{option_map}
+use Rattle.words.specs.Pages.{PageValue, page_of, page_value}
 use Rattle.words.proofs.PageSpelling.{page_spelling}
 use Rattle.words.proofs.pages.read_page.Goals as goal
 
-pub returns-in-8 : goal.returns-in-8
-returns-in-8 c =
-    let ws = c.args.words.now in
-    let e = c.read_entry.ensures.page ∙ as_entry c.args.sites ws (sym c.is_group.ensures ∙ c.if-not-is_group.false) (omega arith) in
-    record { page = e; borrowed = c.read_entry.ensures.borrowed; exact = rw e (page_spelling c.args.sites ws) }
+pub returns-in-Some-Entry-clause-exact : goal.returns-in-Some-Entry-clause-exact
+returns-in-Some-Entry-clause-exact c =
+    let e : option_map page_value c.read_entry.result ≡ page_of c.args.sites c.args.words.now = search rules in
+    rw e (page_spelling c.args.sites c.args.words.now)
 
-pub returns-in-9 : goal.returns-in-9
-returns-in-9 c =
-    let ws = c.args.words.now in
-    let e = c.read_closing.ensures.page ∙ as_closing c.args.sites ws (sym c.is_group.ensures ∙ c.if-not-is_group.false) (omega arith) in
-    record { page = e; borrowed = c.read_closing.ensures.borrowed; exact = rw e (page_spelling c.args.sites ws) }
+pub returns-in-Some-Closing-clause-exact : goal.returns-in-Some-Closing-clause-exact
+returns-in-Some-Closing-clause-exact c =
+    let e : option_map page_value c.read_closing.result ≡ page_of c.args.sites c.args.words.now = search rules in
+    rw e (page_spelling c.args.sites c.args.words.now)
+
+pub returns-in_default-word_kind-clause-exact : goal.returns-in_default-word_kind-clause-exact
+returns-in_default-word_kind-clause-exact c =
+    let e : ◌≡◌ {A = Option PageValue} None (page_of c.args.sites c.args.words.now) = search rules in
+    rw e (page_spelling c.args.sites c.args.words.now)

@@ -1,4 +1,5 @@
-use Rattle.std.proofs.Common.{sym, refl, ◌∙◌, arith}
+use Rattle.std.proofs.Common.{sym, refl, ◌∙◌}
+use Rattle.std.proofs.lemmas.Bool.{eqb-true, eqb-false}
 use Rattle.words.proofs.Trials.{no_first, trial_second, trial_kind, trial_change, trial_write, trial_place}
 use Rattle.words.proofs.scan.Reader.read_write.Goals as goal
 
@@ -19,12 +20,12 @@ returns-in_err-change c =
       words = refl;
     }
 
-pub returns-then-kind-ne-ITEM : goal.returns-then-kind-ne-ITEM
-returns-then-kind-ne-ITEM c =
+pub returns-then-not-has_kind : goal.returns-then-not-has_kind
+returns-then-not-has_kind c =
     record {
       write = trial_kind _ _ _ _ c.in_ok-item.ensures.word c.next_word.ensures.after _
-          c.in_ok-change.ensures.word (λ e. omega arith);
-      after = c.drop-trial-then-kind-ne-ITEM.ensures;
+          c.in_ok-change.ensures.word (eqb-false _ _ (sym c.has_kind.ensures ∙ c.if-not-has_kind.true));
+      after = c.drop-trial-then-not-has_kind.ensures;
       words = refl;
     }
 
@@ -42,7 +43,7 @@ pub returns : goal.returns
 returns c =
     record {
       write = trial_write _ _ _ _ c.in_ok-item.ensures.word c.next_word.ensures.after _ _ _
-          c.in_ok-change.ensures.word (omega arith) c.in_ok-change-2.ensures c.load.ensures;
+          c.in_ok-change.ensures.word (eqb-true _ _ (sym c.has_kind.ensures ∙ c.if-not-has_kind.false)) c.in_ok-change-2.ensures c.load.ensures;
       after = c.keep.ensures
           ∙ trial_place _ _ _ _ c.in_ok-item.ensures.word c.next_word.ensures.after _ _
           c.in_ok-change.ensures.word c.next_word-2.ensures.after;

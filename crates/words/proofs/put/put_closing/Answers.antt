@@ -5,7 +5,7 @@ use Rattle.words.specs.Pages.{page_words}
 use Rattle.words.specs.Encoded.{closing_value, wrote, put_answer, put_after}
 use Rattle.words.proofs.Spellings.{same_cons}
 use Rattle.words.proofs.Puts.{put_three, no_room, room}
-use Rattle.words.proofs.spell.put_closing.Goals as goal
+use Rattle.words.proofs.put.put_closing.Goals as goal
 
 pub returns-then-out-count : goal.returns-then-out-count
 returns-then-out-count c =

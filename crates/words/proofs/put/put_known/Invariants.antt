@@ -1,6 +1,6 @@
 use Rattle.std.proofs.Common.{◌≡◌, ◌++◌, map, take, drop}
 use Rattle.words.specs.Bits.{word}
-use Rattle.words.proofs.encode.put_known.Given as goal
+use Rattle.words.proofs.put.put_known.Given as goal
 
 -- The words of the numbers so far, and what the buffer held after them.
 abbrev pub invariant-loop-i : goal.invariant-loop-i

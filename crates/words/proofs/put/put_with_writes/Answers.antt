@@ -2,7 +2,7 @@ use Rattle.std.proofs.Common.{◌∷◌, ap, ◌∙◌, arith}
 use Rattle.words.specs.Writes.{writes_words}
 use Rattle.words.specs.Encoded.{wrote}
 use Rattle.words.proofs.Puts.{length_writes, put_three, no_room, room}
-use Rattle.words.proofs.spell.put_with_writes.Goals as goal
+use Rattle.words.proofs.put.put_with_writes.Goals as goal
 
 pub returns-then-out-count : goal.returns-then-out-count
 returns-then-out-count c =

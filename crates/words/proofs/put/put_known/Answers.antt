@@ -1,14 +1,10 @@
 use Rattle.std.proofs.Common.{arith}
 use Rattle.words.proofs.SpelledPages.{known_at}
 use Rattle.words.proofs.Puts.{known_more, known_all}
-use Rattle.words.proofs.spell.put_known.Goals as goal
+use Rattle.words.proofs.put.put_known.Goals as goal
 
 pub make_word-requires : goal.make_word-requires
-make_word-requires c =
-    record {
-      kind = omega arith;
-      load = known_at c.args.known.now c.loop-i.i _ c.requires.fit (omega arith);
-    }
+make_word-requires c = known_at c.args.known.now c.loop-i.i _ c.requires.fit (omega arith)
 
 pub loop-i-preserved : goal.loop-i-preserved
 loop-i-preserved c =

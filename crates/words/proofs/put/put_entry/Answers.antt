@@ -1,7 +1,7 @@
 use Rattle.std.proofs.Common.{true, refl, ap, ◌∙◌}
 use Rattle.words.specs.Encoded.{put_answer, put_after}
 use Rattle.words.proofs.Spellings.{same_cons}
-use Rattle.words.proofs.spell.put_entry.Goals as goal
+use Rattle.words.proofs.put.put_entry.Goals as goal
 
 pub returns : goal.returns
 returns c =

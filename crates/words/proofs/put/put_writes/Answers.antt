@@ -1,16 +1,13 @@
 use Rattle.std.proofs.Common.{arith}
-use Rattle.words.proofs.Puts.{fit_at, write_more, write_all}
-use Rattle.words.proofs.encode.put_writes.Goals as goal
+use Rattle.words.proofs.SpelledPages.{fit_at}
+use Rattle.words.proofs.Puts.{write_more, write_all}
+use Rattle.words.proofs.put.put_writes.Goals as goal
 
 pub make_word-requires : goal.make_word-requires
-make_word-requires c =
-    record {
-      kind = omega arith;
-      load = (fit_at 0 c.args.writes.now c.loop-i.i _ c.requires.fit (omega arith)).0;
-    }
+make_word-requires c = (fit_at c.args.writes.now c.loop-i.i _ c.requires.fit (omega arith)).0
 
 pub change_bits-requires : goal.change_bits-requires
-change_bits-requires c = (fit_at 0 c.args.writes.now c.loop-i.i _ c.requires.fit (omega arith)).1
+change_bits-requires c = (fit_at c.args.writes.now c.loop-i.i _ c.requires.fit (omega arith)).1
 
 pub loop-i-preserved : goal.loop-i-preserved
 loop-i-preserved c =
