@@ -1,23 +1,23 @@
 -- The account of a list: from one place to the next, and what holds of every commit.
 use Rattle.std.proofs.Common.{◌≡◌, ℕ, zero, suc, ◌+◌, ◌≤◌, Bool, true, ◌&&◌, ltb, List, [], ◌∷◌, ◌++◌, length, take, drop, Some, None, Option, sym, refl, ap, ◌∙◌, add-one, arith, length-append, take-append-drop}
-use Rattle.std.specs.List.{slice_get, AllByRecursion}
+use Rattle.std.specs.List.{slice_get, All}
 use Rattle.std.proofs.lemmas.List.{length-take}
-use Rattle.std.proofs.ByRecursion.{All-append}
-use Rattle.std.proofs.lemmas.Bool.{and_parts, and_from}
+use Rattle.std.proofs.lemmas.List.Elements.{All-nil, All-cons, All-append}
+use Rattle.std.proofs.lemmas.Bool.Decides.{nat_tests}
 use Rattle.words.specs.Bits.{in_range}
 use Rattle.words.specs.Writes.{valid_writes}
 use Rattle.words.specs.Messages.{MessageValue, an_edit, a_report, message_of}
 use Rattle.words.proofs.MessageSpelling.{message_spelling}
 use Rattle.account.specs.declared.decisions.Decision.{Decision}
-use Rattle.account.specs.declared.decisions.Decision.TheVariants.{Void, Noted, Ahead, TooOld, Conflict, Commit}
-use Rattle.account.specs.Account.{Account, Committed, decide, added, next, opening, after_from, account_after, commits_of, last_version}
+use Rattle.account.specs.declared.decisions.Decision.TheVariants.{Commit}
+use Rattle.account.specs.Account.{Account, Committed, a_commit, decide, added, next, opening, after_from, account_after, commits_of, last_version}
 use Rattle.account.proofs.Steps.{after_append, commits_grow}
 use Rattle.group.proofs.Nths.{nth_all}
 
 module _ (n : ℕ) where
   after_one : (a : Account) (ms : List (List ℕ)) (d : ℕ) (ws : List ℕ) → slice_get ms d ≡ Some ws →
       after_from n a (take (suc d) ms) ≡ next (after_from n a (take d ms)) (message_of n ws)
-  after_one a [] d ws e = absurd (let z : ◌≡◌ {A = ℕ} 0 1 = cc in omega arith)
+  after_one a [] d ws e = cc
   after_one a (x ∷ ms) zero ws e = let f : x ≡ ws = cc in ap (λ y. next a (message_of n y)) f
   after_one a (x ∷ ms) (suc d) ws e = after_one (next a (message_of n x)) ms d ws e
 
@@ -37,14 +37,7 @@ module _ (n : ℕ) where
 
   -- a place adds at most one commit
   added_few : (d : Decision) (o : Option MessageValue) → length (added d o) ≤ 1
-  added_few d None = omega arith
-  added_few d (Some (a_report i r)) = omega arith
-  added_few Void (Some (an_edit h t s l)) = omega arith
-  added_few Noted (Some (an_edit h t s l)) = omega arith
-  added_few Ahead (Some (an_edit h t s l)) = omega arith
-  added_few TooOld (Some (an_edit h t s l)) = omega arith
-  added_few (Conflict w) (Some (an_edit h t s l)) = omega arith
-  added_few (Commit v) (Some (an_edit h t s l)) = omega arith
+  added_few d o = grind arith
 
   few_from : (a : Account) (ms : List (List ℕ)) → last_version (after_from n a ms) ≤ last_version a + length ms
   few_from a [] = omega arith
@@ -59,29 +52,25 @@ module _ (n : ℕ) where
   abbrev pub well_made : Committed → Bool
   well_made c = ltb c.home n && (in_range 1 c.ticket && valid_writes c.writes)
 
+  abbrev IsWellMade : Committed → Type 0
+  IsWellMade c = well_made c ≡ true
+
   abbrev WellMade : List Committed → Type 0
-  WellMade = AllByRecursion (λ c. well_made c ≡ true)
+  WellMade cs = All IsWellMade cs
 
   added_well_made : (d : Decision) (o : Option MessageValue) (ws : List ℕ) → message_of n ws ≡ o → WellMade (added d o)
-  added_well_made d None ws e = tt
-  added_well_made d (Some (a_report i r)) ws e = tt
-  added_well_made Void (Some (an_edit h t s l)) ws e = tt
-  added_well_made Noted (Some (an_edit h t s l)) ws e = tt
-  added_well_made Ahead (Some (an_edit h t s l)) ws e = tt
-  added_well_made TooOld (Some (an_edit h t s l)) ws e = tt
-  added_well_made (Conflict w) (Some (an_edit h t s l)) ws e = tt
+  added_well_made d None ws e = All-nil IsWellMade
+  added_well_made d (Some (a_report i r)) ws e = All-nil IsWellMade
   added_well_made (Commit v) (Some (an_edit h t s l)) ws e =
       let valid = ((message_spelling n ws (an_edit h t s l)).0 e).1 in
-      let a = (and_parts _ (ltb h n && (in_range 1 t && (in_range 0 s && valid_writes l))) valid).1 in
-      let b = and_parts (ltb h n) (in_range 1 t && (in_range 0 s && valid_writes l)) a in
-      let c = and_parts (in_range 1 t) (in_range 0 s && valid_writes l) b.1 in
-      (and_from _ _ b.0 (and_from _ _ c.0 (and_parts (in_range 0 s) (valid_writes l) c.1).1), tt)
+      All-cons IsWellMade (a_commit h t l) [] (grind (arith, nat_tests)) (All-nil IsWellMade)
+  added_well_made d (Some (an_edit h t s l)) ws e = All-nil IsWellMade
 
   well_made_from : (a : Account) (ms : List (List ℕ)) → WellMade a.commits → WellMade (after_from n a ms).commits
   well_made_from a [] w = w
   well_made_from a (x ∷ ms) w =
       let m = message_of n x in
-      well_made_from (next a m) ms (All-append _ a.commits (added (decide a m) m) w (added_well_made (decide a m) m x refl))
+      well_made_from (next a m) ms (All-append IsWellMade a.commits (added (decide a m) m) w (added_well_made (decide a m) m x refl))
 
   pub commit_well_made : (ms : List (List ℕ)) (k : ℕ) (c : Committed) → slice_get (commits_of n ms) k ≡ Some c → well_made c ≡ true
-  commit_well_made ms k c e = nth_all (λ x. well_made x ≡ true) (commits_of n ms) k c (well_made_from (opening n) ms tt) e
+  commit_well_made ms k c e = nth_all IsWellMade (commits_of n ms) k c (well_made_from (opening n) ms (All-nil IsWellMade)) e

@@ -83,7 +83,7 @@ module _ {ms : List (List ℕ)} {ts : List Turn} {m : SiteModel} (s : Sound ms t
       by_decision (held_decision (slice_get m.slots h.slot)) c.1 (awaited_right h c.0)
     where
       by_decision : (o : Option Decision) → outcome_of o ≡ Told d → AwaitedRight h o → OutcomeRight m.sites cs h d ts
-      by_decision None e a = absurd (let z : ◌≡◌ {A = ℕ} 0 1 = cc in omega arith)
+      by_decision None e a = cc
       by_decision (Some x) e a = let same : x ≡ d = cc in subst (λ y. OutcomeRight m.sites cs h y ts) same a
 
   pends_right : (h : Handle) → (called m (Outcome h)).0 ≡ Pending → PendingRight h ts
@@ -93,7 +93,7 @@ module _ {ms : List (List ℕ)} {ts : List Turn} {m : SiteModel} (s : Sound ms t
     where
       by_decision : (o : Option Decision) → outcome_of o ≡ Pending → AwaitedRight h o → PendingRight h ts
       by_decision None e a = a
-      by_decision (Some x) e a = absurd (let z : ◌≡◌ {A = ℕ} 0 1 = cc in omega arith)
+      by_decision (Some x) e a = cc
 
   pages_right : (v room : ℕ) (ws : List ℕ) → (called m (Page v room)).0 ≡ Wrote ws → WritesRight m.sites ms ws
   pages_right v room ws q =

@@ -1,5 +1,5 @@
 -- Drafts and posted edits: begin, put, post, give up, outcome and let go leave a sound site.
-use Rattle.std.proofs.Common.{◌≡◌, ℕ, ◌<◌, Bool, true, false, cond, eqb, List, ◌∷◌, length, set, is_some, Some, None, Option, sym, refl, ap, ◌∙◌, subst, arith}
+use Rattle.std.proofs.Common.{◌≡◌, ℕ, ◌<◌, ◌≤◌, Bool, true, false, cond, eqb, List, ◌∷◌, length, set, is_some, Some, None, Option, sym, refl, ap, ◌∙◌, subst, arith}
 use Rattle.std.proofs.lemmas.Bool.{not-false, leb-false, eqb-false}
 use Rattle.words.specs.declared.changes.Write.{Write}
 use Rattle.words.specs.Writes.{write_fits}
@@ -25,21 +25,12 @@ module _ {ms : List (List ℕ)} {ts : List Turn} {m : SiteModel} (s : Sound ms t
   begin_kept f =
       let few : m.log.tickets < 268435455 = leb-false 268435455 m.log.tickets (passed (table m Begin) 5 f) in
       let more = ticketed_more m.log few in
-      record {
-        group = s.group;
-        mine = s.mine;
-        log = log_tickets s.log;
-        tickets = omega (arith, more);
-        under = s.under;
-        over = s.over;
-        mode = subst (Fits m.mode) (sym (ticketed_whole m.log)) s.mode;
-        low = s.low;
-        store = s.store;
-        change = s.change;
-        slots = subst
-            (λ k. SlotsRight m.sites (commits_of m.sites ms) m.number (a_turn m.number Begin (answered m Begin) ∷ ts) k s.low
-            m.store.version (left m Begin).slots) (sym more) (slots_begun s.slots (or_zero (lowest_empty m.slots)) s.store.within);
-      }
+      let mode = subst (Fits m.mode) (sym (ticketed_whole m.log)) s.mode in
+      let slots = subst
+      (λ k. SlotsRight m.sites (commits_of m.sites ms) m.number (a_turn m.number Begin (answered m Begin) ∷ ts) k s.low
+      m.store.version (left m Begin).slots) (sym more) (slots_begun s.slots (or_zero (lowest_empty m.slots)) s.store.within) in
+      let given : (left m Begin).log.tickets ≤ 268435455 = omega (arith, more) in
+      search (log_tickets s.log)
 
   -- a turn that does nothing, with a slot emptied
   quiet_emptied : (c : Call) (a : Answer) (j : ℕ) → deed_of a c ≡ nothing → Sound ms (a_turn m.number c a ∷ ts) (with_slot m j empty)

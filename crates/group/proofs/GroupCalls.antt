@@ -1,20 +1,15 @@
 -- A call at one site, seen as a call of the group.
-use Rattle.std.proofs.Common.{◌≡◌, ℕ, zero, suc, ◌<◌, ◌≤◌, List, [], ◌∷◌, map, length, get_or, set, Some, None, sym, refl, ap, ◌∙◌, subst}
+use Rattle.std.proofs.Common.{◌≡◌, ℕ, ◌<◌, ◌≤◌, List, map, length, get_or, set, Some, None, sym, refl, ap, ◌∙◌, subst}
 use Rattle.std.specs.List.{slice_get}
-use Rattle.std.proofs.lemmas.List.{length-map}
-use Rattle.std.proofs.lemmas.Option.{slice_get_past, slice_get_read}
+use Rattle.std.proofs.lemmas.List.{length-map, map-set}
+use Rattle.std.specs.Option.{option_map}
+use Rattle.std.proofs.lemmas.Option.{slice_get_past, slice_get_read, slice_get-map}
 use Rattle.site.specs.SiteModel.{SiteModel}
 use Rattle.site.specs.Calls.{Call, Answer, called}
 use Rattle.group.specs.Record.{a_turn}
 use Rattle.group.specs.Runs.{GoesOn}
 use Rattle.group.specs.Groups.{called_in, called_at}
-use Rattle.group.proofs.Nths.{nth_map}
 use Rattle.group.proofs.RunLaw.{goes_on}
-
-map_set : {A B : Type 0} (f : A → B) (xs : List A) (i : ℕ) (x : A) → map f (set xs i x) ≡ set (map f xs) i (f x)
-map_set f [] i x = refl
-map_set f (y ∷ xs) zero x = refl
-map_set f (y ∷ xs) (suc i) x = ap (λ l. f y ∷ l) (map_set f xs i x)
 
 module _ {C : Type 0} (model : C → SiteModel) (xs : List C) (i : ℕ) where
   pub no_site : length xs ≤ i → slice_get (map model xs) i ≡ None
@@ -22,16 +17,16 @@ module _ {C : Type 0} (model : C → SiteModel) (xs : List C) (i : ℕ) where
 
   module _ (x : C) (within : i < length xs) (there : x ≡ get_or xs i x) where
     pub the_site : slice_get (map model xs) i ≡ Some (model x)
-    the_site = nth_map model xs i x (slice_get_read xs (length xs) i x refl within there)
+    the_site = slice_get-map model xs i ∙ ap (option_map model) (slice_get_read xs (length xs) i x refl within there)
 
     module _ (c : Call) (y : C) (a : Answer) (done : (a, model y) ≡ called (model x) c) where
       pub one_call : (Some a, map model (set xs i y)) ≡ called_at (map model xs) i c
       one_call =
-          ap (λ l. (Some a, l)) (map_set model xs i y) ∙ ap (λ (p : Answer × SiteModel). (Some p.0, set (map model xs) i p.1)) done
+          ap (λ l. (Some a, l)) (map-set model xs i y) ∙ ap (λ (p : Answer × SiteModel). (Some p.0, set (map model xs) i p.1)) done
           ∙ ap (λ o. called_in (map model xs) i o c) (sym the_site)
 
       pub one_goes_on : GoesOn (map model xs) (map model (set xs i y)) (a_turn i c a)
       one_goes_on =
-          subst (λ l. GoesOn (map model xs) l (a_turn i c a)) (sym (map_set model xs i y))
+          subst (λ l. GoesOn (map model xs) l (a_turn i c a)) (sym (map-set model xs i y))
           (subst (λ (p : Answer × SiteModel). GoesOn (map model xs) (set (map model xs) i p.1) (a_turn i c p.0)) (sym done)
           (goes_on (map model xs) i (model x) c the_site))

@@ -1,7 +1,7 @@
 -- A call, declined or carried out, leaves a sound site of the same number in the same group.
 use Rattle.std.proofs.Common.{◌≡◌, ℕ, List, [], ◌∷◌, is_some, Some, None, Option, refl}
-use Rattle.std.specs.List.{slice_get, ContainsAt, AllByRecursion}
-use Rattle.std.proofs.ByRecursion.{all-has}
+use Rattle.std.specs.List.{slice_get, All, Contains}
+use Rattle.std.proofs.lemmas.List.Elements.{All-nil, All-cons, All-contains}
 use Rattle.std.proofs.lemmas.Bool.{cond_both}
 use Rattle.account.specs.declared.decisions.Decision.{Decision}
 use Rattle.words.specs.declared.changes.Write.{Write}
@@ -10,7 +10,7 @@ use Rattle.logs.specs.LogModel.{entry_at, write_of}
 use Rattle.site.specs.declared.handles.Handle.{Handle}
 use Rattle.site.specs.Slots.{held_decision}
 use Rattle.site.specs.SiteModel.{SiteModel}
-use Rattle.site.specs.Calls.{first, Call, Begin, Read, Look, Put, Post, GiveUp, Outcome, LetGo, Deliver, Step, Report, Page, Take, Trim, Prune, Crash, Wake, Answer, Declined, Wrote, drafted, awaited, after_outcome, after_page, is_behind, stepped_in, stepped, table, answered, left, by_table, called}
+use Rattle.site.specs.Calls.{first, Call, Begin, Put, Post, GiveUp, Outcome, LetGo, Deliver, Step, Page, Take, Trim, Prune, Crash, Wake, Answer, Declined, Wrote, drafted, awaited, after_outcome, after_page, is_behind, stepped_in, stepped, table, answered, left, by_table, called}
 use Rattle.group.specs.Record.{Turn, a_turn}
 use Rattle.group.specs.Law.{WritesRight, RecordRight}
 use Rattle.group.specs.Runs.{Supposed}
@@ -23,20 +23,18 @@ use Rattle.group.proofs.LogCalls.{deliver_kept, take_kept, trim_kept, prune_kept
 abbrev RightPage : ℕ → List (List ℕ) → Turn → Type 0
 RightPage n ms t = (v room : ℕ) (ws : List ℕ) → t.call ≡ Page v room → t.answer ≡ Wrote ws → WritesRight n ms ws
 
-right_pages : (n : ℕ) (ms : List (List ℕ)) (ts : List Turn) → RecordRight n ms ts → AllByRecursion (RightPage n ms) ts
-right_pages n ms [] r = tt
-right_pages n ms (t ∷ ts) r = (r.0.pages, right_pages n ms ts r.1)
+right_pages : (n : ℕ) (ms : List (List ℕ)) (ts : List Turn) → RecordRight n ms ts → All (RightPage n ms) ts
+right_pages n ms [] r = All-nil (RightPage n ms)
+right_pages n ms (t ∷ ts) r = All-cons (RightPage n ms) t ts r.0.pages (right_pages n ms ts r.1)
 
-page_written : (n : ℕ) (ms : List (List ℕ)) (ts : List Turn) (i v room : ℕ) (ws : List ℕ) → RecordRight n ms ts → ContainsAt ts (a_turn i (Page v room) (Wrote ws)) →
+page_written : (n : ℕ) (ms : List (List ℕ)) (ts : List Turn) (i v room : ℕ) (ws : List ℕ) → RecordRight n ms ts → Contains ts (a_turn i (Page v room) (Wrote ws)) →
     WritesRight n ms ws
-page_written n ms ts i v room ws r h = all-has (RightPage n ms) ts (a_turn i (Page v room) (Wrote ws)) (right_pages n ms ts r) h v room ws refl refl
+page_written n ms ts i v room ws r h = All-contains (RightPage n ms) ts (a_turn i (Page v room) (Wrote ws)) (right_pages n ms ts r) h v room ws refl refl
 
 module _ {ms : List (List ℕ)} {ts : List Turn} {m : SiteModel} (s : Sound ms ts m) (r : RecordRight m.sites ms ts) where
   carried_kept : (c : Call) → first (table m c) ≡ None → Supposed ms ts (a_turn m.number c (answered m c)) →
       Sound ms (a_turn m.number c (answered m c) ∷ ts) (left m c)
   carried_kept Begin f g = begin_kept s f
-  carried_kept (Read h x) f g = sound_quiet s (Read h x) (answered m (Read h x)) refl
-  carried_kept (Look x) f g = sound_quiet s (Look x) (answered m (Look x)) refl
   carried_kept (Put h w) f g = put_kept s h w f
   carried_kept (Post h room) f g = post_kept s h room f
   carried_kept (GiveUp h) f g = give_up_kept s h
@@ -44,14 +42,13 @@ module _ {ms : List (List ℕ)} {ts : List Turn} {m : SiteModel} (s : Sound ms t
   carried_kept (LetGo h) f g = let_go_kept s h
   carried_kept (Deliver p ws) f g = deliver_kept s p ws f (g.delivers p ws _ refl refl)
   carried_kept Step f g = step_kept s f
-  carried_kept (Report room) f g = sound_quiet s (Report room) (answered m (Report room)) refl
-  carried_kept (Page v room) f g = sound_quiet s (Page v room) (answered m (Page v room)) refl
   carried_kept (Take ws) f g =
       let w = g.takes ws refl refl in take_kept s ws f (page_written m.sites ms ts w.0 w.1 w.2 ws r w.3)
   carried_kept Trim f g = trim_kept s
   carried_kept Prune f g = prune_kept s
   carried_kept Crash f g = crash_kept s
   carried_kept Wake f g = wake_kept s
+  carried_kept c f g = sound_quiet s c (answered m c) refl
 
   pub kept : (c : Call) → Supposed ms ts (a_turn m.number c (called m c).0) → Sound ms (a_turn m.number c (called m c).0 ∷ ts) (called m c).1
   kept c g = by_refusal (first (table m c)) refl g
@@ -83,23 +80,12 @@ module _ (m : SiteModel) where
   step_placed (Some k) = write_placed k (write_of (entry_at m.log _) k)
 
   left_placed : (c : Call) → Placed (left m c)
-  left_placed Begin = (refl, refl)
-  left_placed (Read h x) = (refl, refl)
-  left_placed (Look x) = (refl, refl)
-  left_placed (Put h w) = (refl, refl)
-  left_placed (Post h room) = (refl, refl)
   left_placed (GiveUp h) = cond_both (is_some (drafted m h)) _ m Placed (λ _. (refl, refl)) (λ _. (refl, refl))
   left_placed (Outcome h) = outcome_placed h (held_decision (slice_get m.slots h.slot))
   left_placed (LetGo h) = cond_both (awaited m h) _ m Placed (λ _. (refl, refl)) (λ _. (refl, refl))
-  left_placed (Deliver p ws) = (refl, refl)
   left_placed Step = step_placed m.change
-  left_placed (Report room) = (refl, refl)
-  left_placed (Page v room) = (refl, refl)
   left_placed (Take ws) = page_placed (page_of m.sites ws)
-  left_placed Trim = (refl, refl)
-  left_placed Prune = (refl, refl)
-  left_placed Crash = (refl, refl)
-  left_placed Wake = (refl, refl)
+  left_placed _ = (refl, refl)
 
   pub called_placed : (c : Call) → ((called m c).1.number ≡ m.number) × ((called m c).1.sites ≡ m.sites)
   called_placed c = by_refusal (first (table m c))

@@ -109,19 +109,10 @@ module _ {ms : List (List ℕ)} {ts : List Turn} {m : SiteModel} (s : Sound ms t
       (slots_from (slots_quiet s Prune Done refl) k (needed_from v m.slots)))
 
   pub crash_kept : Sound ms (a_turn m.number Crash Done ∷ ts) (left m Crash)
-  crash_kept = record {
-    group = s.group;
-    mine = s.mine;
-    log = s.log;
-    tickets = s.tickets;
-    under = s.under;
-    over = s.over;
-    mode = tt;
-    low = s.low;
-    store = store_dropped s.store;
-    change = refl;
-    slots = slots_emptied (slots_quiet s Crash Done refl) 8;
-  }
+  crash_kept =
+      let store = store_dropped s.store in
+      let slots = slots_emptied (slots_quiet s Crash Done refl) 8 in
+      search
 
   pub wake_kept : Sound ms (a_turn m.number Wake (answered m Wake) ∷ ts) (left m Wake)
   wake_kept =

@@ -1,7 +1,8 @@
 -- What each function of a log leaves where it is carried out.
-use Rattle.std.proofs.Common.{◌≡◌, ℕ, ◌+◌, ◌<◌, ◌≤◌, true, ◌&&◌, eqb, ltb, leb, List, [], ◌∷◌, ◌++◌, length, set, replicate, Some, sym, ap, ◌∙◌, arith}
-use Rattle.std.proofs.lemmas.Bool.{and_parts, eqb-true, leb-true, ltb-true, lt-ltb, cond-true}
-use Rattle.words.specs.Bits.{in_range, is_group, every}
+use Rattle.std.proofs.Common.{◌≡◌, ℕ, ◌+◌, ◌<◌, ◌≤◌, true, ltb, leb, List, [], ◌∷◌, ◌++◌, length, set, replicate, Some, sym, ap, ◌∙◌, arith}
+use Rattle.std.proofs.lemmas.Bool.{and_parts, lt-ltb, cond-true}
+use Rattle.std.proofs.lemmas.Bool.Decides.{nat_tests}
+use Rattle.words.specs.Bits.{every}
 use Rattle.words.specs.Pages.{a_closing, page_of}
 use Rattle.words.proofs.PageSpelling.{page_spelling}
 use Rattle.logs.specs.LogModel.{Entry, LogModel, Marks, limit, a_log, a_mark, held, marks, with_entries, last_version, can_append, appended, can_commit, committed, can_copy, copied, passed, noted, closed, mark_cleared, mark_passed, all_within}
@@ -45,13 +46,9 @@ pub record Closes (n d : ℕ) (ks : List ℕ) : Type 0 where
 
 pub closes : (n v d : ℕ) (ks ws : List ℕ) → page_of n ws ≡ Some (a_closing v d ks) → Closes n d ks
 closes n v d ks ws e =
-    let a = and_parts (is_group n) (eqb (length ks) n && (in_range v d && every (λ k. leb k v) ks)) ((page_spelling n ws (a_closing v d ks)).0 e).1 in
-    let b = and_parts (eqb (length ks) n) (in_range v d && every (λ k. leb k v) ks) a.1 in
-    let c = and_parts (in_range v d) (every (λ k. leb k v) ks) b.1 in
-    let r = and_parts (leb v d) (ltb d 268435456) c.0 in
-    let low = leb-true v d r.0 in
-    let high = ltb-true d 268435456 r.1 in
-    record { many = eqb-true (length ks) n b.0; place = omega arith; within = every_within v ks (omega arith) c.1 }
+    let valid = ((page_spelling n ws (a_closing v d ks)).0 e).1 in
+    let bounds : (length ks ≡ n) × (v ≤ d) × (d ≤ 268435455) × (every (λ k. leb k v) ks ≡ true) = grind (arith, nat_tests) in
+    record { many = bounds.0; place = bounds.2; within = every_within v ks (omega arith) bounds.3 }
 
 pub closed_is : (n d : ℕ) (ks : List ℕ) (l : LogModel) → length l.known ≡ n → Closes n d ks →
     closed l d ks ≡ with_held l l.entries (a_mark d ks l.tickets true)
@@ -65,11 +62,9 @@ pub record Unused (n : ℕ) (l : LogModel) : Type 0 where
 
 pub unused : (n : ℕ) (l : LogModel) → length l.known ≡ n → is_fresh_log l ≡ true → Unused n l
 unused n l size fresh =
-    let a = and_parts (is_zero (last_version l)) _ fresh in
-    let b = and_parts (is_zero l.place) _ a.1 in
-    let c = and_parts (is_zero l.tickets) (l.whole && every is_zero l.known) b.1 in
+    let zeros : every is_zero l.known ≡ true = grind (arith, nat_tests) in
     record {
-      last = eqb-true (last_version l) 0 a.0;
-      place = eqb-true l.place 0 b.0;
-      known = all_zeros l.known (and_parts l.whole (every is_zero l.known) c.1).1 ∙ ap (λ k. replicate k 0) size;
+      last = grind (arith, nat_tests);
+      place = grind (arith, nat_tests);
+      known = all_zeros l.known zeros ∙ ap (λ k. replicate k 0) size;
     }

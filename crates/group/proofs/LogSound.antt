@@ -1,8 +1,11 @@
 -- A log agrees with the account of the whole list, and whatever is done to it keeps that so.
 use Rattle.std.proofs.Common.{◌≡◌, ℕ, zero, suc, ◌+◌, ◌-◌, ◌<◌, ◌≤◌, min, max, true, false, not, ◌&&◌, eqb, ltb, leb, List, [], ◌∷◌, ◌++◌, map, length, take, drop, set, Some, None, Option, sym, refl, ap, ◌∙◌, subst, add-one, arith}
 use Rattle.std.specs.List.{slice_get}
+use Rattle.std.specs.Option.{option_map}
+use Rattle.std.proofs.lemmas.Option.{slice_get-map}
 use Rattle.std.proofs.lemmas.List.{append_assoc, append-nil, map-append, map_push, take-append-drop, take_at, length-append, length-map, length_push, length-take, nil_from_length}
 use Rattle.std.proofs.lemmas.Bool.{and_parts, not-false, eqb-true, cond_both, false≢true}
+use Rattle.std.proofs.lemmas.Bool.Decides.{nat_tests}
 use Rattle.words.specs.declared.changes.Write.{Write}
 use Rattle.words.specs.Bits.{is_group}
 use Rattle.words.specs.Messages.{MessageValue, an_edit, a_report, message_of}
@@ -17,12 +20,12 @@ use Rattle.logs.specs.LogModel.{Entry, LogModel, Marks, an_entry as entry_of, li
 use Rattle.logs.specs.Holding.{entry_above, append_parts}
 use Rattle.logs.proofs.Entries.{above_floor, below_last}
 use Rattle.site.specs.SiteModel.{SiteModel}
-use Rattle.site.specs.Making.{is_fresh_store, is_fresh_log}
+use Rattle.site.specs.Making.{is_fresh_log}
 use Rattle.site.specs.Certify.{as_commit, judged_by, certified, kept, is_commit, number_or_zero, heard_by, declines, log_after}
 use Rattle.site.specs.CatchUp.{covers, page_after, page_at, follows, has_room_for, log_taken}
 use Rattle.group.specs.Law.{at_place, DecidesRight, PageRight, WritesRight, LogRight}
 use Rattle.group.specs.Runs.{Fresh}
-use Rattle.group.proofs.Nths.{nth_left, nth_right, nth_after, nth_map}
+use Rattle.group.proofs.Nths.{nth_left, nth_right, nth_after}
 use Rattle.group.proofs.Accounts.{account_next, commits_front}
 use Rattle.group.proofs.Leasts.{same_least, least_covers, up_to_at, raise_noted, length_heard}
 use Rattle.group.proofs.LogForms.{with_held, next_mark, passed_is, noted_is, committed_is, copied_is, closes, closed_is, unused}
@@ -61,10 +64,9 @@ fresh_sound n ms l size fresh =
 pub log_starts : {n i : ℕ} {m : SiteModel} (ms : List (List ℕ)) → Fresh n i m → LogSound n ms m.log
 log_starts {n} {i} {m} ms f =
     let l = f.log in
-    let a = and_parts (is_group (length l.known)) (ltb i (length l.known) && (is_fresh_store f.store && is_fresh_log l)) f.makeable in
-    let b = and_parts (ltb i (length l.known)) (is_fresh_store f.store && is_fresh_log l) a.1 in
+    let fresh : is_fresh_log l ≡ true = grind (arith, nat_tests, f.makeable) in
     let same : m.log ≡ l = ap (λ x. x.log) f.new in
-    rw same (fresh_sound n ms l f.size (and_parts (is_fresh_store f.store) (is_fresh_log l) b.1).1)
+    rw same (fresh_sound n ms l f.size fresh)
 
 module _ {n : ℕ} {ms : List (List ℕ)} {l : LogModel} (s : LogSound n ms l) where
   pub log_size : length l.known ≡ n
@@ -82,7 +84,8 @@ module _ {n : ℕ} {ms : List (List ℕ)} {l : LogModel} (s : LogSound n ms l) w
       let es = map as_commit l.entries in
       ap (λ cs. slice_get cs v) s.joins
       ∙ nth_left (s.past ++ es) s.rest v (as_commit e)
-      (ap (slice_get (s.past ++ es)) (sym i) ∙ nth_right s.past es j ∙ nth_map as_commit l.entries j e (sym (entry_above (held l) (suc v) above) ∙ h))
+      (ap (slice_get (s.past ++ es)) (sym i) ∙ nth_right s.past es j ∙ slice_get-map as_commit l.entries j
+      ∙ ap (option_map as_commit) (sym (entry_above (held l) (suc v) above) ∙ h))
 
   -- other marks over the same entries
   remarked : (k : Marks) → l.floor ≤ least k.known → length k.known ≡ n → k.place ≤ 268435455 →

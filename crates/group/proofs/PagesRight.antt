@@ -1,9 +1,8 @@
 -- Pages of the account: those that say what it holds are read back.
-use Rattle.std.proofs.Common.{◌≡◌, ℕ, zero, suc, ◌≤◌, true, ◌&&◌, ltb, List, length, take, Some, refl, arith}
-use Rattle.std.proofs.lemmas.Bool.{and_parts, and_from, eq-eqb, le-leb, lt-ltb}
+use Rattle.std.proofs.Common.{◌≡◌, ℕ, zero, suc, ◌≤◌, true, List, length, take, Some, refl, arith}
+use Rattle.std.proofs.lemmas.Bool.Decides.{nat_tests}
 use Rattle.words.specs.declared.changes.Write.{Write}
-use Rattle.words.specs.Bits.{in_range, is_group}
-use Rattle.words.specs.Writes.{valid_writes}
+use Rattle.words.specs.Bits.{is_group}
 use Rattle.words.specs.Pages.{PageValue, an_entry, a_closing, page_words, valid_page}
 use Rattle.words.proofs.PageSpelling.{page_spelling}
 use Rattle.account.specs.Account.{a_commit, account_after, commits_of, commit_of, last_version}
@@ -19,11 +18,9 @@ PageFits n (a_closing v d ks) = (d ≤ 268435455) × (length ks ≡ n)
 
 module _ (n : ℕ) (ms : List (List ℕ)) (group : is_group n ≡ true) where
   entry_valid : (h v t : ℕ) (l : List Write) → v ≤ 268435455 → commit_of (commits_of n ms) v ≡ Some (a_commit h t l) → valid_page n (an_entry h v t l) ≡ true
-  entry_valid h zero t l f e = absurd (let z : ◌≡◌ {A = ℕ} 0 1 = cc in omega arith)
+  entry_valid h zero t l f e = cc
   entry_valid h (suc v) t l f e =
-      let a = and_parts (ltb h n) (in_range 1 t && valid_writes l) (commit_well_made n ms v (a_commit h t l) e) in
-      and_from _ _ group (and_from _ _ a.0
-      (and_from _ _ (and_from _ _ (le-leb 1 (suc v) (omega arith)) (lt-ltb (suc v) 268435456 (omega arith))) a.1))
+      let a = commit_well_made n ms v (a_commit h t l) e in grind (arith, nat_tests)
 
   page_valid : (p : PageValue) → PageFits n p → PageRight n ms p → valid_page n p ≡ true
   page_valid (an_entry h v t l) f e = entry_valid h v t l f e
@@ -31,8 +28,7 @@ module _ (n : ℕ) (ms : List (List ℕ)) (group : is_group n ≡ true) where
       let a = account_after n (take d ms) in
       let low : v ≤ d = omega (arith, e.0, last_within n ms d) in
       let known = rw (← e.0, ← e.1) at (up_to_every (last_version a) a.known (known_up_to_last n (take d ms))) in
-      and_from _ _ group (and_from _ _ (eq-eqb (length ks) n f.1)
-      (and_from _ _ (and_from _ _ (le-leb v d low) (lt-ltb d 268435456 (omega (arith, f.0)))) known))
+      grind (arith, nat_tests)
 
   pub page_writes : (p : PageValue) → PageFits n p → PageRight n ms p → WritesRight n ms (page_words p)
   page_writes p f e = record { page = p; reads = (page_spelling n (page_words p) p).1 refl (page_valid p f e); right = e }

@@ -1,7 +1,7 @@
 -- What a call that is carried out was not refused for, and that its deed is of its own site.
-use Rattle.std.proofs.Common.{◌≡◌, ℕ, Bool, true, false, cond, not, eqb, List, [], ◌∷◌, length, is_some, Some, None, Option, sym, refl, ap, ◌∙◌, subst, arith}
+use Rattle.std.proofs.Common.{◌≡◌, ℕ, Bool, true, false, cond, not, eqb, List, [], ◌∷◌, length, is_some, Some, None, Option, sym, refl, ap, ◌∙◌, subst}
 use Rattle.std.specs.List.{slice_get}
-use Rattle.std.proofs.lemmas.Bool.{cond_both, false≢true}
+use Rattle.std.proofs.lemmas.Bool.{cond_both}
 use Rattle.account.specs.declared.decisions.Decision.{Decision}
 use Rattle.words.specs.declared.changes.Write.{Write}
 use Rattle.logs.specs.LogModel.{entry_at, write_of}
@@ -9,7 +9,7 @@ use Rattle.site.specs.declared.handles.Handle.{Handle}
 use Rattle.site.specs.Edits.{EditModel}
 use Rattle.site.specs.Slots.{held_decision}
 use Rattle.site.specs.SiteModel.{SiteModel}
-use Rattle.site.specs.Calls.{Line, first, Call, Begin, Read, Look, Put, Post, GiveUp, Outcome, LetGo, Deliver, Step, Report, Page, Take, Trim, Prune, Crash, Wake, Answer, Declined, Drafted, Value, Done, ReadOnly, Sent, Pending, Told, Opened, Staged, Sealed, Idle, Wrote, Woken, drafted, edit_or, sent, outcome_of, is_behind, stepped_in, stepped, table, answered, by_table, called}
+use Rattle.site.specs.Calls.{Line, first, Call, Begin, Put, Post, Outcome, Step, Answer, Declined, ReadOnly, drafted, edit_or, sent, outcome_of, is_behind, stepped_in, stepped, table, answered, by_table, called}
 use Rattle.group.specs.Record.{deed_of}
 use Rattle.group.proofs.Turns.{OfSite}
 use Rattle.group.proofs.Tables.{draft_slot}
@@ -25,25 +25,13 @@ passed (l ∷ ls) k e = by_line l.applies refl e (passed ls k)
   where
     by_line : (b : Bool) → l.applies ≡ b → cond b (Some l.number) (first ls) ≡ None → (first ls ≡ None → applies k ls ≡ false) →
         cond (eqb l.number k) l.applies (applies k ls) ≡ false
-    by_line true q h rest = absurd (let z : ◌≡◌ {A = ℕ} 0 1 = cc in omega arith)
+    by_line true q h rest = cc
     by_line false q h rest = cond_both (eqb l.number k) l.applies (applies k ls) (λ x. x ≡ false) (λ _. q) (λ _. rest h)
 
 -- Answers of calls that are carried out.
 abbrev pub Carried : Answer → Type 0
 Carried (Declined n) = ⊥
-Carried (Drafted h) = Unit {0}
-Carried (Value o) = Unit {0}
-Carried Done = Unit {0}
-Carried ReadOnly = Unit {0}
-Carried (Sent h ws) = Unit {0}
-Carried Pending = Unit {0}
-Carried (Told d) = Unit {0}
-Carried Opened = Unit {0}
-Carried Staged = Unit {0}
-Carried Sealed = Unit {0}
-Carried Idle = Unit {0}
-Carried (Wrote ws) = Unit {0}
-Carried (Woken k) = Unit {0}
+Carried _ = Unit {0}
 
 pub carried : (m : SiteModel) (c : Call) (a : Answer) → (called m c).0 ≡ a → Carried a → (first (table m c) ≡ None) × (answered m c ≡ a)
 carried m c a e y = by_refusal (first (table m c)) refl e
@@ -54,7 +42,7 @@ carried m c a e y = by_refusal (first (table m c)) refl e
 
 -- where something is not missing
 pub some_of : {A : Type 0} (o : Option A) → not (is_some o) ≡ false → (a : A) × (o ≡ Some a)
-some_of None h = absurd (false≢true (sym h))
+some_of None h = cc
 some_of (Some a) h = (a, refl)
 
 pub the_draft : (m : SiteModel) (c : Call) (h : Handle) → first (table m c) ≡ None → applies 6 (table m c) ≡ not (is_some (drafted m h)) →
@@ -84,22 +72,11 @@ module _ (m : SiteModel) where
 
   carried_site : (c : Call) → first (table m c) ≡ None → OfSite m.number (deed_of (answered m c) c)
   carried_site Begin f = refl
-  carried_site (Read h x) f = tt
-  carried_site (Look x) f = tt
   carried_site (Put h w) f = draft_site m (Put h w) h f refl
   carried_site (Post h room) f = post_site h room (draft_site m (Post h room) h f refl)
-  carried_site (GiveUp h) f = tt
   carried_site (Outcome h) f = outcome_site h (held_decision (slice_get m.slots h.slot))
-  carried_site (LetGo h) f = tt
-  carried_site (Deliver p ws) f = tt
   carried_site Step f = step_site m.change
-  carried_site (Report room) f = tt
-  carried_site (Page v room) f = tt
-  carried_site (Take ws) f = tt
-  carried_site Trim f = tt
-  carried_site Prune f = tt
-  carried_site Crash f = tt
-  carried_site Wake f = tt
+  carried_site _ f = tt
 
   pub deed_site : (c : Call) → OfSite m.number (deed_of (called m c).0 c)
   deed_site c = by_refusal (first (table m c)) refl

@@ -1,16 +1,15 @@
 -- The law over runs: fresh sites are sound, every turn keeps all of them so, and each is answered rightly.
-use Rattle.std.proofs.Common.{◌≡◌, ℕ, true, ltb, List, [], ◌∷◌, length, set, Some, sym, refl, ap, ◌∙◌, subst, arith}
+use Rattle.std.proofs.Common.{◌≡◌, ℕ, true, List, [], ◌∷◌, length, set, Some, sym, refl, ap, ◌∙◌, subst, arith}
 use Rattle.std.specs.List.{slice_get}
 use Rattle.std.proofs.lemmas.List.{nil_from_length}
-use Rattle.std.proofs.lemmas.Bool.{and_parts, ltb-true, eqb-true}
-use Rattle.words.specs.Bits.{is_group, every}
+use Rattle.std.proofs.lemmas.Bool.Decides.{nat_tests}
 use Rattle.account.specs.Account.{commits_of}
 use Rattle.account.specs.Scenes.{scene}
 use Rattle.store.specs.StoreModel.{StoreModel, Bounded as StoreBounded, latest, matches, value_in}
 use Rattle.logs.specs.LogModel.{LogModel, Bounded as LogBounded, last_version}
 use Rattle.site.specs.Slots.{empty}
 use Rattle.site.specs.SiteModel.{SiteModel}
-use Rattle.site.specs.Making.{is_zero, is_fresh_store, is_fresh_log, can_make, new_site}
+use Rattle.site.specs.Making.{can_make, new_site}
 use Rattle.site.specs.Calls.{Call, called}
 use Rattle.group.specs.Record.{Turn, a_turn, deed_of}
 use Rattle.group.specs.Law.{TurnRight, RecordRight, LogRight}
@@ -28,25 +27,19 @@ use Rattle.group.proofs.Answered.{turn_right}
 module _ (ms : List (List ℕ)) (i : ℕ) (g : StoreModel) (l : LogModel) (can : can_make i g l ≡ true) (sb : StoreBounded g) (lb : LogBounded l) where
   new_sound : Sound ms [] (new_site i g l)
   new_sound =
-      let a = and_parts (is_group (length l.known)) _ can in
-      let b = and_parts (ltb i (length l.known)) _ a.1 in
-      let c = and_parts (is_fresh_store g) (is_fresh_log l) b.1 in
-      let d = and_parts (is_zero g.version) _ c.0 in
-      let e = and_parts (is_zero (length g.sealed)) (is_zero (length g.staged)) d.1 in
-      let p = and_parts (is_zero (last_version l)) _ c.1 in
-      let q = and_parts (is_zero l.place) _ p.1 in
-      let r = and_parts (is_zero l.tickets) _ q.1 in
-      let none : g.version ≡ 0 = eqb-true _ _ d.0 in
-      let unsealed : g.sealed ≡ [] = nil_from_length g.sealed (eqb-true _ _ e.0) in
-      let last : last_version l ≡ 0 = eqb-true (last_version l) 0 p.0 in
+      let none : g.version ≡ 0 = grind (arith, nat_tests) in
+      let sealed : length g.sealed ≡ 0 = grind (arith, nat_tests) in
+      let staged : length g.staged ≡ 0 = grind (arith, nat_tests) in
+      let last : last_version l ≡ 0 = grind (arith, nat_tests) in
+      let unsealed : g.sealed ≡ [] = nil_from_length g.sealed sealed in
       record {
-        group = a.0;
-        mine = ltb-true i (length l.known) b.0;
+        group = grind (arith, nat_tests);
+        mine = grind (arith, nat_tests);
         log = log_starts ms (record { store = g; log = l; makeable = can; size = refl; store_bounded = sb; log_bounded = lb; new = refl });
         tickets = omega (arith, lb.tickets_bound);
         under = omega arith;
         over = omega arith;
-        mode = (and_parts l.whole (every is_zero l.known) r.1).0;
+        mode = grind (arith, nat_tests);
         low = 0;
         store = record {
           within = omega arith;
@@ -55,7 +48,7 @@ module _ (ms : List (List ℕ)) (i : ℕ) (g : StoreModel) (l : LogModel) (can :
               ap (λ rs. value_in (latest (matches x v) rs)) unsealed ∙ ap (λ u. scene (commits_of (length l.known) ms) u x) (sym z);
           bounded = sb;
         };
-        change = nil_from_length g.staged (eqb-true _ _ e.1);
+        change = nil_from_length g.staged staged;
         slots = record {
           each = replicate_each (SlotRight (length l.known) (commits_of (length l.known) ms) i [] l.tickets 0 g.version) 8 empty (λ k. tt);
           count = sym none;

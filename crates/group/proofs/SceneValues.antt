@@ -1,5 +1,5 @@
 -- Scenes one commit on, by values alone.
-use Rattle.std.proofs.Common.{◌≡◌, ℕ, zero, suc, Bool, true, false, cond, eqb, List, [], ◌∷◌, take, ℤ, Some, None, Option, refl, ap, ◌∙◌, arith}
+use Rattle.std.proofs.Common.{◌≡◌, ℕ, zero, suc, Bool, true, false, cond, eqb, List, [], ◌∷◌, take, ℤ, Some, None, Option, refl, ap, ◌∙◌}
 use Rattle.std.specs.Option.{option_map}
 use Rattle.std.specs.List.{slice_get}
 use Rattle.words.specs.declared.changes.Change.{Change}
@@ -25,7 +25,7 @@ written_value v (w ∷ l) x o = written_value v l x _ ∙ ap (rewritten x l) (on
 
 applied_value : (u v : ℕ) (cs : List Committed) (c : Committed) (x : ℕ) (o : Option Placed) → slice_get cs v ≡ Some c →
     value_at (applied u (take (suc v) cs) x o) ≡ rewritten x c.writes (value_at (applied u (take v cs) x o))
-applied_value u v [] c x o e = absurd (let z : ◌≡◌ {A = ℕ} 0 1 = cc in omega arith)
+applied_value u v [] c x o e = cc
 applied_value u zero (d ∷ cs) c x o e = let q : d ≡ c = cc in written_value (suc u) d.writes x o ∙ ap (λ y. rewritten x y.writes (value_at o)) q
 applied_value u (suc v) (d ∷ cs) c x o e = applied_value (suc u) v cs c x _ e
 

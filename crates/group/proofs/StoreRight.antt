@@ -2,11 +2,11 @@
 use Rattle.std.proofs.Common.{◌≡◌, ℕ, zero, suc, ◌+◌, ◌<◌, ◌≤◌, Bool, true, List, [], ◌∷◌, ◌++◌, map, length, take, Some, None, Option, sym, refl, ap, ◌∙◌, subst, ⊎_elim, add-one, arith, length-append, length-take}
 use lib.ListN.{length-map}
 use Rattle.std.specs.List.{slice_get}
+use Rattle.std.proofs.lemmas.Option.{slice_get_within}
 use Rattle.std.proofs.lemmas.List.{take_all, length_push}
 use Rattle.std.proofs.lemmas.Bool.{and_parts, and_from, le-leb, lt-ltb, cond-true, cases_lt}
 use Rattle.words.specs.declared.changes.Write.{Write}
 use Rattle.account.specs.Account.{Committed}
-use Rattle.account.proofs.Places.{nth_within}
 use Rattle.account.specs.Scenes.{scene}
 use Rattle.store.specs.declared.records.Record.{Record}
 use Rattle.store.specs.StoreModel.{StoreModel, Bounded, dated, read_at, space, with_staged, staged_on, dropped, next_version, sealed_up, every, at_most, pruned_to}
@@ -28,19 +28,19 @@ every_part f (left_out r {xs} {ys} p) e = every_part f p (and_parts (f r) (every
 
 part_length : {xs ys : List Record} → Part xs ys → length xs ≤ length ys
 part_length none = omega arith
-part_length (kept r p) = let q = part_length p in omega arith
-part_length (left_out r p) = let q = part_length p in omega arith
+part_length (kept r p) = omega (arith, part_length p)
+part_length (left_out r p) = omega (arith, part_length p)
 
 -- The next of some writes, and the end of them
 
 next_write : (l : List Write) (k : ℕ) (w : Write) → slice_get l k ≡ Some w → take (suc k) l ≡ take k l ++ (w ∷ [])
-next_write [] k w e = absurd (let z : ◌≡◌ {A = ℕ} 0 1 = cc in omega arith)
+next_write [] k w e = cc
 next_write (x ∷ l) zero w e = let q : x ≡ w = cc in ap (λ y. y ∷ []) q
 next_write (x ∷ l) (suc k) w e = ap (λ y. x ∷ y) (next_write l k w e)
 
 no_write : (l : List Write) (k : ℕ) → slice_get l k ≡ None → length l ≤ k
 no_write [] k e = omega arith
-no_write (x ∷ l) zero e = absurd (let z : ◌≡◌ {A = ℕ} 0 1 = cc in omega arith)
+no_write (x ∷ l) zero e = cc
 no_write (x ∷ l) (suc k) e = omega (arith, no_write l k e)
 
 module _ (cs : List Committed) where
@@ -66,14 +66,7 @@ module _ (cs : List Committed) where
 module _ (cs : List Committed) (s : StoreModel) where
   pub change_on : (last more : ℕ) (o : Option ℕ) → last ≤ more → ChangeRight cs last s o → ChangeRight cs more s o
   change_on last more None l c = c
-  change_on last more (Some k) l c = record {
-    commit = c.commit;
-    there = c.there;
-    ahead = omega (arith, c.ahead);
-    staged = c.staged;
-    count = c.count;
-    room = c.room;
-  }
+  change_on last more (Some k) l c = let ahead : s.version < more = omega (arith, c.ahead) in search
 
   pub change_pruned : (h last : ℕ) (o : Option ℕ) → ChangeRight cs last s o → ChangeRight cs last (pruned_to h s) o
   change_pruned h last None c = (prune_law s h).staged ∙ c
@@ -132,7 +125,7 @@ module _ {cs : List Committed} {low : ℕ} {s : StoreModel} (r : StoreRight cs l
     -- one more write is staged
     module _ (w : Write) (e : slice_get c.commit.writes k ≡ Some w) where
       more : (k < length c.commit.writes) × (length s.staged ≡ k)
-      more = (nth_within c.commit.writes k w e, ap length c.staged ∙ omega (arith, length-take k c.commit.writes, c.count))
+      more = (slice_get_within c.commit.writes k w e, ap length c.staged ∙ omega (arith, length-take k c.commit.writes, c.count))
 
       stages : staged_on s w ≡ with_staged s (s.staged ++ (w ∷ []))
       stages = cond-true _ _ _ (lt-ltb 0 (space s) (omega (arith, more, c.room)))

@@ -2,6 +2,7 @@
 use Rattle.std.proofs.Common.{◌≡◌, ℕ, zero, suc, ◌≤◌, min, Bool, true, false, cond, eqb, ◌⊎◌, List, [], ◌∷◌, map, set, replicate, Some, None, Option, sym, refl, ap, ◌∙◌, inl, inr, arith}
 use Rattle.std.specs.List.{slice_get}
 use Rattle.std.proofs.lemmas.Bool.{eqb-true, and_parts}
+use Rattle.std.proofs.lemmas.Option.{cond_some}
 use Rattle.account.specs.declared.decisions.Decision.{Decision}
 use Rattle.site.specs.declared.handles.Handle.{Handle}
 use Rattle.site.specs.Handles.{a_handle}
@@ -15,7 +16,7 @@ module _ {X : Type 0} where
   -- what stands in a list with one element set: that element at its place, or what stood there
   pub set_each : (P : ℕ → X → Type 0) (xs : List X) (j : ℕ) (a : X) → ((k : ℕ) (x : X) → (k ≡ j → ⊥) → slice_get xs k ≡ Some x → P k x) → P j a →
       (k : ℕ) (x : X) → slice_get (set xs j a) k ≡ Some x → P k x
-  set_each P [] j a f p k x e = absurd (let z : ◌≡◌ {A = ℕ} 0 1 = cc in omega arith)
+  set_each P [] j a f p k x e = cc
   set_each P (y ∷ xs) zero a f p zero x e = let q : a ≡ x = cc in rw (sym q) p
   set_each P (y ∷ xs) zero a f p (suc k) x e = f (suc k) x (λ q. omega arith) e
   set_each P (y ∷ xs) (suc j) a f p zero x e = f zero x (λ q. omega arith) e
@@ -24,12 +25,12 @@ module _ {X : Type 0} where
 
   pub map_each : (P : ℕ → X → Type 0) (f : X → X) (xs : List X) → ((k : ℕ) (x : X) → slice_get xs k ≡ Some x → P k (f x)) →
       (k : ℕ) (x : X) → slice_get (map f xs) k ≡ Some x → P k x
-  map_each P f [] g k x e = absurd (let z : ◌≡◌ {A = ℕ} 0 1 = cc in omega arith)
+  map_each P f [] g k x e = cc
   map_each P f (y ∷ xs) g zero x e = let q : f y ≡ x = cc in rw (sym q) (g zero y refl)
   map_each P f (y ∷ xs) g (suc k) x e = map_each (λ i. P (suc i)) f xs (λ i b q. g (suc i) b q) k x e
 
   pub replicate_each : (P : ℕ → X → Type 0) (n : ℕ) (a : X) → ((k : ℕ) → P k a) → (k : ℕ) (x : X) → slice_get (replicate n a) k ≡ Some x → P k x
-  replicate_each P zero a f k x e = absurd (let z : ◌≡◌ {A = ℕ} 0 1 = cc in omega arith)
+  replicate_each P zero a f k x e = cc
   replicate_each P (suc n) a f zero x e = let q : a ≡ x = cc in rw (sym q) (f zero)
   replicate_each P (suc n) a f (suc k) x e = replicate_each (λ i. P (suc i)) n a (λ i. f (suc i)) k x e
 
@@ -39,16 +40,10 @@ same_handle_by : (h : Handle) (i t : ℕ) → h.site ≡ i → t ≡ h.ticket �
 same_handle_by h i t p q = ap (λ s. a_handle s h.slot h.ticket) p ∙ ap (a_handle i h.slot) (sym q)
 
 opened_by : (o : Option SlotModel) (t : ℕ) (e : EditModel) → held_open o t ≡ Some e → (o ≡ Some (opened e)) × (e.ticket ≡ t)
-opened_by None t e h = absurd (let z : ◌≡◌ {A = ℕ} 0 1 = cc in omega arith)
-opened_by (Some empty) t e h = absurd (let z : ◌≡◌ {A = ℕ} 0 1 = cc in omega arith)
-opened_by (Some (opened x)) t e h = by_test (eqb x.ticket t) refl h
-  where
-    by_test : (b : Bool) → eqb x.ticket t ≡ b → cond b (Some x) None ≡ Some e →
-        (◌≡◌ {A = Option SlotModel} (Some (opened x)) (Some (opened e))) × (e.ticket ≡ t)
-    by_test true q g = let same : x ≡ e = cc in (ap (λ y. Some (opened y)) same, ap (λ y. y.ticket) (sym same) ∙ eqb-true x.ticket t q)
-    by_test false q g = absurd (let z : ◌≡◌ {A = ℕ} 0 1 = cc in omega arith)
-opened_by (Some (posted x)) t e h = absurd (let z : ◌≡◌ {A = ℕ} 0 1 = cc in omega arith)
-opened_by (Some (decided u d)) t e h = absurd (let z : ◌≡◌ {A = ℕ} 0 1 = cc in omega arith)
+opened_by (Some (opened x)) t e h =
+    let p = cond_some (eqb x.ticket t) x e h in
+    (ap (λ y. Some (opened y)) p.1, ap (λ y. y.ticket) (sym p.1) ∙ eqb-true x.ticket t p.0)
+opened_by _ t e h = cc
 
 -- A slot that holds the edit of a handle.
 pub record HoldsEdit (m : SiteModel) (h : Handle) (s : SlotModel) (t : ℕ) : Type 0 where
@@ -63,15 +58,13 @@ draft_slot m h e d = by_site (eqb h.site m.number) refl d
     by_site true q g =
         let r = opened_by (slice_get m.slots h.slot) h.ticket e g in
         record { there = r.0; handle = same_handle_by h m.number e.ticket (eqb-true _ _ q) r.1 }
-    by_site false q g = absurd (let z : ◌≡◌ {A = ℕ} 0 1 = cc in omega arith)
+    by_site false q g = cc
 
 posted_by : (o : Option SlotModel) (t : ℕ) → held_posted o t ≡ true →
     ((e : EditModel) × (o ≡ Some (posted e)) × (e.ticket ≡ t)) ⊎ ((u : ℕ) × (d : Decision) × (o ≡ Some (decided u d)) × (u ≡ t))
-posted_by None t h = absurd (let z : ◌≡◌ {A = ℕ} 0 1 = cc in omega arith)
-posted_by (Some empty) t h = absurd (let z : ◌≡◌ {A = ℕ} 0 1 = cc in omega arith)
-posted_by (Some (opened x)) t h = absurd (let z : ◌≡◌ {A = ℕ} 0 1 = cc in omega arith)
 posted_by (Some (posted x)) t h = inl (x, refl, eqb-true x.ticket t h)
 posted_by (Some (decided u d)) t h = inr (u, d, refl, eqb-true u t h)
+posted_by _ t h = cc
 
 pub awaited_slot : (m : SiteModel) (h : Handle) → awaited m h ≡ true →
     ((e : EditModel) × HoldsEdit m h (posted e) e.ticket) ⊎ ((u : ℕ) × (d : Decision) × HoldsEdit m h (decided u d) u)
@@ -86,13 +79,12 @@ awaited_slot m h a =
 -- Versions that slots need: a bound below the snapshots of open and posted slots
 
 abbrev pub NeedsFrom : ℕ → SlotModel → Type 0
-NeedsFrom v empty = Unit {0}
 NeedsFrom v (opened e) = v ≤ e.snapshot
 NeedsFrom v (posted e) = v ≤ e.snapshot
-NeedsFrom v (decided t d) = Unit {0}
+NeedsFrom v _ = Unit {0}
 
 pub needed_from : (v : ℕ) (ss : List SlotModel) (k : ℕ) (s : SlotModel) → slice_get ss k ≡ Some s → NeedsFrom (least_needed v ss) s
-needed_from v [] k s e = absurd (let z : ◌≡◌ {A = ℕ} 0 1 = cc in omega arith)
+needed_from v [] k s e = cc
 needed_from v (empty ∷ ss) zero s e = let q : empty ≡ s = cc in rw (sym q) tt
 needed_from v (opened x ∷ ss) zero s e = let q : opened x ≡ s = cc in rw (sym q) (omega (arith, needed_within (min v x.snapshot) ss))
 needed_from v (posted x ∷ ss) zero s e = let q : posted x ≡ s = cc in rw (sym q) (omega (arith, needed_within (min v x.snapshot) ss))

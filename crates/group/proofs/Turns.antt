@@ -4,7 +4,7 @@ use Rattle.std.proofs.lemmas.Bool.{eq-eqb, ne_eqb, and_left, and_right, and_from
 use Rattle.words.specs.Messages.{or_else}
 use Rattle.site.specs.declared.handles.Handle.{Handle}
 use Rattle.site.specs.Calls.{same_handle}
-use Rattle.group.specs.Record.{Turn, Deed, nothing, began, wrote, posted, decided, sealed, deed, seals_by, seals, begins, snapshot, writes_by, last_write, posts_by, posted_as, tells_of, first_told}
+use Rattle.group.specs.Record.{Turn, Deed, began, wrote, posted, decided, sealed, deed, seals_by, seals, begins, snapshot, writes_by, last_write, posts_by, posted_as, tells_of, first_told}
 
 -- The record says the same of a handle.
 pub record Same (h : Handle) (ts us : List Turn) : Type 0 where
@@ -15,12 +15,11 @@ pub record Same (h : Handle) (ts us : List Turn) : Type 0 where
 
 -- A deed at site i that says nothing of a handle which was posted as o.
 abbrev pub Misses : ℕ → Handle → Option (List ℕ) → Deed → Type 0
-Misses i h o nothing = Unit {0}
 Misses i h o (began b) = same_handle b h ≡ false
 Misses i h o (wrote b w) = same_handle b h ≡ false
 Misses i h o (posted b ws) = same_handle b h ≡ false
 Misses i h o (decided ws d) = cond (eqb i h.site) (tells_of o (decided ws d)) None ≡ None
-Misses i h o sealed = Unit {0}
+Misses i h o _ = Unit {0}
 
 pub or_none : {A : Type 0} (o : Option A) → or_else o None ≡ o
 or_none None = refl
@@ -32,60 +31,36 @@ cond_same false x y e = refl
 
 -- Only a delivery tells.
 abbrev pub TellsNothing : Deed → Type 0
-TellsNothing nothing = Unit {0}
-TellsNothing (began b) = Unit {0}
-TellsNothing (wrote b w) = Unit {0}
-TellsNothing (posted b ws) = Unit {0}
 TellsNothing (decided ws d) = ⊥
-TellsNothing sealed = Unit {0}
+TellsNothing _ = Unit {0}
 
 untelling : (i : ℕ) (h : Handle) (o : Option (List ℕ)) (d : Deed) → TellsNothing d → cond (eqb i h.site) (tells_of o d) None ≡ None
 untelling i h o d u = cond_same (eqb i h.site) (tells_of o d) None (none_by o d u)
   where
     none_by : (p : Option (List ℕ)) (d : Deed) → TellsNothing d → tells_of p d ≡ None
     none_by None d u = refl
-    none_by (Some ws) nothing u = refl
-    none_by (Some ws) (began b) u = refl
-    none_by (Some ws) (wrote b w) u = refl
-    none_by (Some ws) (posted b us) u = refl
     none_by (Some ws) (decided us x) u = absurd u
-    none_by (Some ws) sealed u = refl
+    none_by (Some ws) d u = refl
 
 pub told_same : (h : Handle) (ts : List Turn) (t : Turn) → TellsNothing (deed t) → first_told h (t ∷ ts) ≡ first_told h ts
 told_same h ts t u = ap (or_else (first_told h ts)) (untelling t.site h (posted_as h ts) (deed t) u) ∙ or_none (first_told h ts)
 
 module _ (i : ℕ) (h : Handle) (o : Option (List ℕ)) where
   misses_begin : (d : Deed) → Misses i h o d → begins h d ≡ false
-  misses_begin nothing m = refl
   misses_begin (began b) m = m
-  misses_begin (wrote b w) m = refl
-  misses_begin (posted b ws) m = refl
-  misses_begin (decided ws d) m = refl
-  misses_begin sealed m = refl
+  misses_begin _ m = refl
 
   misses_write : (d : Deed) → Misses i h o d → (x : ℕ) → writes_by h x d ≡ None
-  misses_write nothing m x = refl
-  misses_write (began b) m x = refl
   misses_write (wrote b w) m x = cond-false _ _ _ (and_left _ _ m)
-  misses_write (posted b ws) m x = refl
-  misses_write (decided ws d) m x = refl
-  misses_write sealed m x = refl
+  misses_write _ m x = refl
 
   misses_post : (d : Deed) → Misses i h o d → posts_by h d ≡ None
-  misses_post nothing m = refl
-  misses_post (began b) m = refl
-  misses_post (wrote b w) m = refl
   misses_post (posted b ws) m = cond-false _ _ _ m
-  misses_post (decided ws d) m = refl
-  misses_post sealed m = refl
+  misses_post _ m = refl
 
   misses_tell : (d : Deed) → Misses i h o d → cond (eqb i h.site) (tells_of o d) None ≡ None
-  misses_tell nothing m = untelling i h o nothing tt
-  misses_tell (began b) m = untelling i h o (began b) tt
-  misses_tell (wrote b w) m = untelling i h o (wrote b w) tt
-  misses_tell (posted b us) m = untelling i h o (posted b us) tt
   misses_tell (decided ws d) m = m
-  misses_tell sealed m = untelling i h o sealed tt
+  misses_tell d m = untelling i h o d tt
 
 pub same_missed : (h : Handle) (ts : List Turn) (t : Turn) → Misses t.site h (posted_as h ts) (deed t) → Same h ts (t ∷ ts)
 same_missed h ts t m = record {
@@ -110,41 +85,34 @@ slots_apart a b e = and_right (eqb a.site b.site) _ (and_left _ _ (ne_eqb a.slot
 pub tickets_apart : (a b : Handle) → (a.ticket ≡ b.ticket → ⊥) → same_handle a b ≡ false
 tickets_apart a b e = and_right (eqb a.site b.site) _ (and_right (eqb a.slot b.slot) _ (ne_eqb a.ticket b.ticket e))
 
--- A deed of a handle, if of any: and then a handle of the site.
+-- A deed of a handle, and one that is of a handle of the site, if of any.
 abbrev pub About : Handle → Deed → Type 0
-About h nothing = Unit {0}
 About h (began b) = b ≡ h
 About h (wrote b w) = b ≡ h
 About h (posted b ws) = b ≡ h
-About h (decided ws d) = ⊥
-About h sealed = ⊥
+About h _ = ⊥
 
 abbrev pub OfSite : ℕ → Deed → Type 0
-OfSite i nothing = Unit {0}
 OfSite i (began b) = b.site ≡ i
 OfSite i (wrote b w) = b.site ≡ i
 OfSite i (posted b ws) = b.site ≡ i
-OfSite i (decided ws d) = Unit {0}
-OfSite i sealed = Unit {0}
+OfSite i _ = Unit {0}
 
 about_misses : (i : ℕ) (a h : Handle) (o : Option (List ℕ)) (d : Deed) → About a d → same_handle a h ≡ false → Misses i h o d
-about_misses i a h o nothing e n = tt
-about_misses i a h o (began b) e n = ap (λ x. same_handle x h) e ∙ n
-about_misses i a h o (wrote b w) e n = ap (λ x. same_handle x h) e ∙ n
-about_misses i a h o (posted b ws) e n = ap (λ x. same_handle x h) e ∙ n
-about_misses i a h o (decided ws d) e n = absurd e
-about_misses i a h o sealed e n = absurd e
+about_misses i a h o (began b) e n = rw e n
+about_misses i a h o (wrote b w) e n = rw e n
+about_misses i a h o (posted b ws) e n = rw e n
+about_misses i a h o _ e n = absurd e
 
 pub same_about : (a h : Handle) (ts : List Turn) (t : Turn) → About a (deed t) → same_handle a h ≡ false → Same h ts (t ∷ ts)
 same_about a h ts t e n = same_missed h ts t (about_misses t.site a h (posted_as h ts) (deed t) e n)
 
 other_misses : (i : ℕ) (h : Handle) (o : Option (List ℕ)) (d : Deed) → OfSite i d → (i ≡ h.site → ⊥) → Misses i h o d
-other_misses i h o nothing e n = tt
 other_misses i h o (began b) e n = sites_apart b h (λ p. n (sym e ∙ p))
 other_misses i h o (wrote b w) e n = sites_apart b h (λ p. n (sym e ∙ p))
 other_misses i h o (posted b ws) e n = sites_apart b h (λ p. n (sym e ∙ p))
 other_misses i h o (decided ws d) e n = cond-false _ _ _ (ne_eqb i h.site n)
-other_misses i h o sealed e n = tt
+other_misses i h o _ e n = tt
 
 pub same_elsewhere : (h : Handle) (ts : List Turn) (t : Turn) → OfSite t.site (deed t) → (t.site ≡ h.site → ⊥) → Same h ts (t ∷ ts)
 same_elsewhere h ts t e n = same_missed h ts t (other_misses t.site h (posted_as h ts) (deed t) e n)
@@ -152,28 +120,16 @@ same_elsewhere h ts t e n = same_missed h ts t (other_misses t.site h (posted_as
 -- Versions sealed
 
 abbrev pub Unsealed : Deed → Type 0
-Unsealed nothing = Unit {0}
-Unsealed (began b) = Unit {0}
-Unsealed (wrote b w) = Unit {0}
-Unsealed (posted b ws) = Unit {0}
-Unsealed (decided ws d) = Unit {0}
 Unsealed sealed = ⊥
+Unsealed _ = Unit {0}
 
 pub about_unsealed : (a : Handle) (d : Deed) → About a d → Unsealed d
-about_unsealed a nothing e = tt
-about_unsealed a (began b) e = tt
-about_unsealed a (wrote b w) e = tt
-about_unsealed a (posted b ws) e = tt
-about_unsealed a (decided ws d) e = tt
 about_unsealed a sealed e = e
+about_unsealed a _ e = tt
 
 counts_same : (d : Deed) (n : ℕ) → Unsealed d → seals_by d n ≡ n
-counts_same nothing n u = refl
-counts_same (began b) n u = refl
-counts_same (wrote b w) n u = refl
-counts_same (posted b ws) n u = refl
-counts_same (decided ws d) n u = refl
 counts_same sealed n u = absurd u
+counts_same _ n u = refl
 
 module _ (i : ℕ) (ts : List Turn) (t : Turn) where
   pub seals_same : Unsealed (deed t) → seals i (t ∷ ts) ≡ seals i ts

@@ -5,6 +5,7 @@ use Rattle.std.specs.List.{slice_get}
 use Rattle.std.specs.Option.{option_map}
 use Rattle.words.specs.Bits.{is_group}
 use Rattle.site.specs.declared.calls.Response.{Response}
+use Rattle.site.specs.declared.refusals.Refusal.{Refusal}
 use Rattle.site.specs.SiteModel.{SiteModel}
 use Rattle.site.specs.Calls.{Call, Answer, called, landed}
 use Rattle.site.specs.Spoken.{heard, is_new}
@@ -42,7 +43,7 @@ abbrev pub called_at : List SiteModel → ℕ → Call → Option Answer × List
 called_at ss i c = called_in ss i (slice_get ss i) c
 
 -- A response of the group, with the buffer as it is afterwards.
-abbrev pub heard_in : Option Response → List ℕ → Option Answer
+abbrev pub heard_in : Option (Result Response Refusal) → List ℕ → Option Answer
 heard_in r out = option_map (λ x. heard x out) r
 
 abbrev pub landed_in : Option Answer → List ℕ → List ℕ

@@ -1,6 +1,6 @@
 -- Runs: from fresh sites, one call after another, each answered and left as its contract says.
 use Rattle.std.specs.Prelude.{◌≡◌, ℕ, true, List, [], ◌∷◌, length, Some, slice_set}
-use Rattle.std.specs.List.{slice_get, ContainsAt}
+use Rattle.std.specs.List.{slice_get, Contains}
 use Rattle.words.specs.Bits.{is_group}
 use Rattle.account.specs.declared.decisions.Decision.{Decision}
 use Rattle.store.specs.StoreModel.{StoreModel, Bounded as StoreBounded}
@@ -30,7 +30,7 @@ pub record FreshGroup (n : ℕ) (ss : List SiteModel) : Type 0 where
 -- written earlier in the run.
 pub record Supposed (ms : List (List ℕ)) (ts : List Turn) (t : Turn) : Type 0 where
   pub delivers : (p : ℕ) (ws : List ℕ) (d : Decision) → t.call ≡ Deliver p ws → t.answer ≡ Told d → at_place ms p ≡ Some ws
-  pub takes : (ws : List ℕ) → t.call ≡ Take ws → t.answer ≡ Done → (i v room : ℕ) × ContainsAt ts (a_turn i (Page v room) (Wrote ws))
+  pub takes : (ws : List ℕ) → t.call ≡ Take ws → t.answer ≡ Done → (i v room : ℕ) × Contains ts (a_turn i (Page v room) (Wrote ws))
 
 -- What a site answers to a call, and what it is afterwards.
 abbrev pub Acting : Type 0

@@ -13,10 +13,12 @@ ghost use Rattle.group.specs.declared.any.AnySite.TheVariants.{JournalFlat, Jour
 use logs::flat::Flat;
 use logs::packed::Packed;
 use site::calls::{Calls, Request, Response, Shown};
+use site::refusals::Refusal;
 use site::site::Site;
 use store::chains::Chains;
 use store::journal::Journal;
 
+// Each call is one match over the four kinds: what hands out a `dyn Calls` is refused, and a closure takes sites of one type only.
 #[derive(Drop)]
 pub enum AnySite {
     JournalFlat(Site<Journal, Flat>),
@@ -53,7 +55,7 @@ impl Calls for AnySite {
         }
     }
 
-    fn call(&mut self, request: Request, words: &[u32], out: &mut [u32]) -> Response {
+    fn call(&mut self, request: Request, words: &[u32], out: &mut [u32]) -> Result<Response, Refusal> {
         match self {
             AnySite::JournalFlat(site) => site.call(request, words, out),
             AnySite::JournalPacked(site) => site.call(request, words, out),

@@ -2,8 +2,6 @@
 ghost use Rattle.group.specs.Runs.{RunLaw};
 
 /// In every run each turn is right by the account of the whole list, and so is every log.
-pub fn run_law() -> u8
+pub fn run_law()
     ensures { RunLaw }
-{
-    0
-}
+{}

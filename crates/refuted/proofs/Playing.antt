@@ -1,9 +1,9 @@
 -- A play whose turns pass the test of what is supposed is a run.
-use Rattle.std.proofs.Common.{◌≡◌, ℕ, true, List, [], ◌∷◌, length, Some, None, Option, sym, refl, ap, ◌∙◌, subst, ⊎_elim}
-use Rattle.std.specs.List.{slice_get, ContainsAt}
+use Rattle.std.proofs.Common.{◌≡◌, ℕ, true, List, [], ◌∷◌, length, Some, None, Option, sym, refl, ap, ◌∙◌, ⊎_elim, arith}
+use Rattle.std.specs.List.{slice_get, Contains}
 use Rattle.std.proofs.lemmas.Bool.{and_parts, or_cases, false≢true}
 use Rattle.std.proofs.lemmas.Slice.Eq.{bytes_eq-Decides}
-use Rattle.std.proofs.ByRecursion.{has_append_left, has_append_right, has_push}
+use Rattle.std.proofs.lemmas.List.Elements.{Contains-append_right}
 use Rattle.site.specs.SiteModel.{SiteModel}
 use Rattle.site.specs.Calls.{Call, Begin, Read, Look, Put, Post, GiveUp, Outcome, LetGo, Deliver, Step, Report, Page, Take, Trim, Prune, Crash, Wake, Answer, Declined, Drafted, Value, Done, ReadOnly, Sent, Pending, Told, Opened, Staged, Sealed, Idle, Wrote, Woken}
 use Rattle.group.specs.Record.{Turn, a_turn}
@@ -13,61 +13,33 @@ use Rattle.refuted.specs.Plays.{Kit, Move, Stage, are_kits, opening, moved_in, m
 use Rattle.refuted.proofs.Kits.{kits_fresh}
 
 words_there : (o : Option (List ℕ)) (ws : List ℕ) → are_words o ws ≡ true → o ≡ Some ws
-words_there None ws e = absurd (false≢true e)
 words_there (Some us) ws e = ap Some ((bytes_eq-Decides us ws).0 e)
+words_there None ws e = cc
 
 words_written : (ws : List ℕ) (a : Answer) → wrote_words ws a ≡ true → a ≡ Wrote ws
-words_written ws (Declined n) e = absurd (false≢true e)
-words_written ws (Drafted h) e = absurd (false≢true e)
-words_written ws (Value o) e = absurd (false≢true e)
-words_written ws Done e = absurd (false≢true e)
-words_written ws ReadOnly e = absurd (false≢true e)
-words_written ws (Sent h us) e = absurd (false≢true e)
-words_written ws Pending e = absurd (false≢true e)
-words_written ws (Told d) e = absurd (false≢true e)
-words_written ws Opened e = absurd (false≢true e)
-words_written ws Staged e = absurd (false≢true e)
-words_written ws Sealed e = absurd (false≢true e)
-words_written ws Idle e = absurd (false≢true e)
 words_written ws (Wrote us) e = ap Wrote ((bytes_eq-Decides us ws).0 e)
-words_written ws (Woken k) e = absurd (false≢true e)
+words_written ws _ e = cc
 
 -- A turn that wrote a page of these words.
 abbrev PageWritten : List ℕ → Turn → Type 0
 PageWritten ws t = (i v room : ℕ) × (t ≡ a_turn i (Page v room) (Wrote ws))
 
 page_written : (ws : List ℕ) (i : ℕ) (c : Call) (a : Answer) → wrote_page ws a c ≡ true → PageWritten ws (a_turn i c a)
-page_written ws i Begin a e = absurd (false≢true e)
-page_written ws i (Read h x) a e = absurd (false≢true e)
-page_written ws i (Look x) a e = absurd (false≢true e)
-page_written ws i (Put h w) a e = absurd (false≢true e)
-page_written ws i (Post h room) a e = absurd (false≢true e)
-page_written ws i (GiveUp h) a e = absurd (false≢true e)
-page_written ws i (Outcome h) a e = absurd (false≢true e)
-page_written ws i (LetGo h) a e = absurd (false≢true e)
-page_written ws i (Deliver p us) a e = absurd (false≢true e)
-page_written ws i Step a e = absurd (false≢true e)
-page_written ws i (Report room) a e = absurd (false≢true e)
 page_written ws i (Page v room) a e = (i, v, room, ap (a_turn i (Page v room)) (words_written ws a e))
-page_written ws i (Take us) a e = absurd (false≢true e)
-page_written ws i Trim a e = absurd (false≢true e)
-page_written ws i Prune a e = absurd (false≢true e)
-page_written ws i Crash a e = absurd (false≢true e)
-page_written ws i Wake a e = absurd (false≢true e)
+page_written ws i _ a e = cc
 
 -- Such a turn stands in the record.
 abbrev Written : List ℕ → List Turn → Type 0
-Written ws ts = (i v room : ℕ) × ContainsAt ts (a_turn i (Page v room) (Wrote ws))
+Written ws ts = (i v room : ℕ) × Contains ts (a_turn i (Page v room) (Wrote ws))
 
 written_now : (ws : List ℕ) (t : Turn) (ts : List Turn) → PageWritten ws t → Written ws (t ∷ ts)
-written_now ws t ts p =
-    (p.0, p.1, p.2, subst (λ (x : Turn). ContainsAt (t ∷ ts) x) p.3 (has_append_left (t ∷ []) ts t (has_push [] t)))
+written_now ws t ts p = (p.0, p.1, p.2, (0, omega arith, p.3))
 
 written_before : (ws : List ℕ) (t : Turn) (ts : List Turn) → Written ws ts → Written ws (t ∷ ts)
-written_before ws t ts p = (p.0, p.1, p.2, has_append_right (t ∷ []) ts _ p.3)
+written_before ws t ts p = (p.0, p.1, p.2, Contains-append_right (t ∷ []) ts _ p.3)
 
 written : (ws : List ℕ) (ts : List Turn) → was_written ws ts ≡ true → Written ws ts
-written ws [] e = absurd (false≢true e)
+written ws [] e = cc
 written ws (t ∷ ts) e =
     ⊎_elim (λ h. written_now ws t ts (page_written ws t.site t.call t.answer h)) (λ h. written_before ws t ts (written ws ts h))
     (or_cases (wrote_page ws t.answer t.call) (was_written ws ts) e)

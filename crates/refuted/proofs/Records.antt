@@ -1,5 +1,6 @@
 -- Wrong records: an outcome of another's delivery, and a log whose entries stand at other versions.
-use Rattle.std.proofs.Common.{◌≡◌, ℕ, List, [], ◌∷◌, pos, Some, None, Option, refl, ap, arith}
+use Rattle.std.proofs.Common.{◌≡◌, ℕ, List, [], ◌∷◌, pos, Some, Option, refl, ap}
+use Rattle.std.specs.Option.{option_map}
 use Rattle.words.specs.declared.changes.Change.TheVariants.{Set}
 use Rattle.words.specs.Writes.{a_write}
 use Rattle.account.specs.declared.decisions.Decision.TheVariants.{Commit}
@@ -16,12 +17,7 @@ settling_by_any_refuted law =
     let moves : List Move = at 0 Begin ∷ (at 0 (Put first_draft (a_write 1 (Set (pos 10)))) ∷ (at 0 (Post first_draft 16)
     ∷ (at 0 (Deliver 1 other) ∷ (at 0 (Outcome first_draft) ∷ [])))) in
     let right = ((by_law law (other ∷ []) moves refl).0.0.tells first_draft (Commit 1) refl refl).told in
-    let z : ◌≡◌ {A = ℕ} 0 1 = cc in omega arith
-
--- the ticket of a commit
-abbrev ticket_of : Option Committed → ℕ
-ticket_of None = 0
-ticket_of (Some c) = c.ticket
+    cc
 
 -- the entry at version 1 is the second commit
 pub dropping_one_more_refuted : Refuted dropping_one_more
@@ -30,4 +26,5 @@ dropping_one_more_refuted law =
     let second = edit_words 1 2 0 2 20 in
     let moves : List Move = at 0 (Deliver 1 first) ∷ (at 0 (Deliver 2 second) ∷ (at 0 Trim ∷ [])) in
     let right = (by_law law (first ∷ (second ∷ [])) moves refl).1 0 _ refl 1 _ refl in
-    let z : ◌≡◌ {A = ℕ} 1 2 = ap ticket_of right in omega arith
+    let tickets : ◌≡◌ {A = Option ℕ} (Some 1) (Some 2) = ap (option_map (λ c. c.ticket)) right in
+    cc

@@ -21,14 +21,14 @@ pub sealing_nothing_refuted : Refuted sealing_nothing
 sealing_nothing_refuted law =
     let moves : List Move = at 0 (Deliver 1 first) ∷ sealing (at 0 (Look 1) ∷ []) in
     let right = (by_law law (first ∷ []) moves refl).0.0.looks 1 None refl refl in
-    let z : ◌≡◌ {A = ℕ} 0 1 = cc in omega arith
+    cc
 
 -- 10, where nothing stood when the draft began
 pub reading_at_present_refuted : Refuted reading_at_present
 reading_at_present_refuted law =
     let moves : List Move = at 0 Begin ∷ (at 0 (Deliver 1 first) ∷ sealing (at 0 (Read first_draft 1) ∷ [])) in
     let right = read_right _ _ _ _ _ 0 ((by_law law (first ∷ []) moves refl).0.0.reads first_draft 1 (Some (pos 10)) refl refl) refl in
-    let z : ◌≡◌ {A = ℕ} 0 1 = cc in omega arith
+    cc
 
 -- nothing, where 10 stood when the draft began
 pub pruning_to_present_refuted : Refuted pruning_to_present
@@ -36,4 +36,4 @@ pruning_to_present_refuted law =
     let later : List Move = at 0 (Deliver 2 second) ∷ sealing (at 0 Prune ∷ (at 0 (Read first_draft 1) ∷ [])) in
     let moves : List Move = at 0 (Deliver 1 first) ∷ sealing (at 0 Begin ∷ later) in
     let right = read_right _ _ _ _ _ 1 ((by_law law (first ∷ (second ∷ [])) moves refl).0.0.reads first_draft 1 None refl refl) refl in
-    let z : ◌≡◌ {A = ℕ} 0 1 = cc in omega arith
+    cc

@@ -7,7 +7,7 @@ use Rattle.store.specs.StoreModel.{fresh as fresh-store}
 use Rattle.logs.specs.LogModel.{LogModel, fresh as fresh-log, limit, all_within}
 use Rattle.site.specs.SiteModel.{SiteModel}
 use Rattle.site.specs.Making.{can_make, new_site}
-use Rattle.site.specs.Calls.{Call, Begin, Read, Look, Put, Post, GiveUp, Outcome, LetGo, Deliver, Step, Report, Page, Take, Trim, Prune, Crash, Wake, Answer, Declined, Drafted, Value, Done, ReadOnly, Sent, Pending, Told, Opened, Staged, Sealed, Idle, Wrote, Woken}
+use Rattle.site.specs.Calls.{Call, Deliver, Page, Take, Answer, Wrote}
 use Rattle.group.specs.Record.{Turn, a_turn}
 use Rattle.group.specs.Law.{at_place}
 use Rattle.group.specs.Runs.{Acting}
@@ -83,39 +83,12 @@ are_words (Some us) ws = bytes_eq us ws
 
 -- Whether a page of these words was written.
 abbrev pub wrote_words : List ℕ → Answer → Bool
-wrote_words ws (Declined n) = false
-wrote_words ws (Drafted h) = false
-wrote_words ws (Value o) = false
-wrote_words ws Done = false
-wrote_words ws ReadOnly = false
-wrote_words ws (Sent h us) = false
-wrote_words ws Pending = false
-wrote_words ws (Told d) = false
-wrote_words ws Opened = false
-wrote_words ws Staged = false
-wrote_words ws Sealed = false
-wrote_words ws Idle = false
 wrote_words ws (Wrote us) = bytes_eq us ws
-wrote_words ws (Woken k) = false
+wrote_words ws _ = false
 
 abbrev pub wrote_page : List ℕ → Answer → Call → Bool
-wrote_page ws a Begin = false
-wrote_page ws a (Read h x) = false
-wrote_page ws a (Look x) = false
-wrote_page ws a (Put h w) = false
-wrote_page ws a (Post h room) = false
-wrote_page ws a (GiveUp h) = false
-wrote_page ws a (Outcome h) = false
-wrote_page ws a (LetGo h) = false
-wrote_page ws a (Deliver p us) = false
-wrote_page ws a Step = false
-wrote_page ws a (Report room) = false
 wrote_page ws a (Page v room) = wrote_words ws a
-wrote_page ws a (Take us) = false
-wrote_page ws a Trim = false
-wrote_page ws a Prune = false
-wrote_page ws a Crash = false
-wrote_page ws a Wake = false
+wrote_page ws a _ = false
 
 abbrev pub was_written : List ℕ → List Turn → Bool
 was_written ws [] = false
@@ -123,23 +96,9 @@ was_written ws (t ∷ ts) = wrote_page ws t.answer t.call || was_written ws ts
 
 -- What is supposed of a turn, as a test: a delivery hands in the words of its place, and a page taken was written before.
 abbrev pub supposed : List (List ℕ) → List Turn → Call → Bool
-supposed ms ts Begin = true
-supposed ms ts (Read h x) = true
-supposed ms ts (Look x) = true
-supposed ms ts (Put h w) = true
-supposed ms ts (Post h room) = true
-supposed ms ts (GiveUp h) = true
-supposed ms ts (Outcome h) = true
-supposed ms ts (LetGo h) = true
 supposed ms ts (Deliver p ws) = are_words (at_place ms p) ws
-supposed ms ts Step = true
-supposed ms ts (Report room) = true
-supposed ms ts (Page v room) = true
 supposed ms ts (Take ws) = was_written ws ts
-supposed ms ts Trim = true
-supposed ms ts Prune = true
-supposed ms ts Crash = true
-supposed ms ts Wake = true
+supposed ms ts _ = true
 
 abbrev pub all_supposed : List (List ℕ) → List Turn → Bool
 all_supposed ms [] = true

@@ -11,7 +11,7 @@ use Rattle.site.specs.Edits.{EditModel, own_change}
 use Rattle.site.specs.Slots.{SlotModel, settled}
 use Rattle.site.specs.Certify.{judged_by, kept, is_commit, heard_by}
 use Rattle.site.specs.SiteModel.{SiteModel, with_store, with_log, with_slots, with_change, keep, horizon}
-use Rattle.site.specs.Calls.{Call, Begin, Read, Look, Put, Post, GiveUp, Outcome, LetGo, Deliver, Step, Report, Page, Take, Trim, Prune, Crash, Wake, Answer, Declined, Value, Done, Told, Sealed, Line, on, first, table, is_down, is_partial, is_beyond, drafted, edit_or, own_or, stepped_in, stepped, called}
+use Rattle.site.specs.Calls.{Call, Read, Deliver, Step, Trim, Prune, Answer, Declined, Value, Done, Told, Sealed, Line, on, first, table, is_down, is_partial, is_beyond, drafted, edit_or, own_or, stepped_in, stepped, called}
 use Rattle.group.specs.Runs.{Acting}
 
 -- What a site does at each of these points.
@@ -77,24 +77,13 @@ unless (Some n) m r = (Declined n, m)
 unless None m r = r
 
 abbrev pub acts_by : Ways → Acting
-acts_by w m Begin = called m Begin
 acts_by w m (Read h x) = unless (first (table m (Read h x))) m
     (Value (own_or (own_change (edit_or (drafted m h)).writes x) (read_at m.store x (w.reads_at m (edit_or (drafted m h))))), m)
-acts_by w m (Look x) = called m (Look x)
-acts_by w m (Put h x) = called m (Put h x)
-acts_by w m (Post h room) = called m (Post h room)
-acts_by w m (GiveUp h) = called m (GiveUp h)
-acts_by w m (Outcome h) = called m (Outcome h)
-acts_by w m (LetGo h) = called m (LetGo h)
 acts_by w m (Deliver p ws) = unless (first (lines w m p ws)) m (delivered w m ws (message_of m.sites ws))
 acts_by w m Step = unless (first (table m Step)) m (steps w m m.change)
-acts_by w m (Report room) = called m (Report room)
-acts_by w m (Page v room) = called m (Page v room)
-acts_by w m (Take ws) = called m (Take ws)
 acts_by w m Trim = unless (first (table m Trim)) m (Done, with_log m (w.trims m))
 acts_by w m Prune = unless (first (table m Prune)) m (Done, with_store m (pruned_to (w.prunes_to m) m.store))
-acts_by w m Crash = called m Crash
-acts_by w m Wake = called m Wake
+acts_by w m c = called m c
 
 -- What a site that acts by `called` does at these points.
 abbrev pub own_snapshot : SiteModel → EditModel → ℕ

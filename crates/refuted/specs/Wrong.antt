@@ -8,7 +8,7 @@ use Rattle.store.specs.StoreModel.{StoreModel, a_store, sealed_up}
 use Rattle.logs.specs.LogModel.{LogModel, last_version, least, trimmed, held, marks, a_log, with_entries}
 use Rattle.site.specs.declared.modes.Mode.{Mode}
 use Rattle.site.specs.Edits.{EditModel}
-use Rattle.site.specs.Slots.{SlotModel, empty, opened, posted, decided, settled}
+use Rattle.site.specs.Slots.{SlotModel, posted, decided, settled}
 use Rattle.site.specs.Certify.{judged_by, clash_above}
 use Rattle.site.specs.SiteModel.{SiteModel, keep, horizon}
 use Rattle.site.specs.Calls.{is_partial}
@@ -102,10 +102,8 @@ pruning_to_present = acts_by (ways judged_by is_partial settled sealed_up own_sn
 
 -- Settles a posted edit by whatever is delivered next, whoever posted that.
 abbrev pub settled_by_any : ℕ → List ℕ → Decision → SlotModel → SlotModel
-settled_by_any i ws d empty = empty
-settled_by_any i ws d (opened e) = opened e
 settled_by_any i ws d (posted e) = decided e.ticket d
-settled_by_any i ws d (decided t x) = decided t x
+settled_by_any i ws d s = s
 
 abbrev pub settling_by_any : Acting
 settling_by_any = acts_by (ways judged_by is_partial settled_by_any sealed_up own_snapshot own_trim keep)

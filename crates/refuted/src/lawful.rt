@@ -2,8 +2,6 @@
 ghost use Rattle.refuted.specs.Lawful.{LawfulRun};
 
 /// Three fresh sites answer these calls so, and the calls with these answers are a run.
-pub fn a_lawful_run() -> u8
+pub fn a_lawful_run()
     ensures { LawfulRun }
-{
-    0
-}
+{}

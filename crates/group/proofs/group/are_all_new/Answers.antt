@@ -1,12 +1,7 @@
-use Rattle.std.proofs.Common.{◌∙◌, arith}
-use Rattle.group.proofs.Makings.{too_few, too_many, enough}
+use Rattle.std.proofs.Common.{sym, ◌∙◌}
+use Rattle.group.proofs.Makings.{each_is}
 use Rattle.group.proofs.group.are_all_new.Goals as goal
 
-pub returns-then-sites-lt2 : goal.returns-then-sites-lt2
-returns-then-sites-lt2 g c = too_few g.C.Calls.model c.args.sites.now (omega arith)
-
-pub returns-then-sites-gt8 : goal.returns-then-sites-gt8
-returns-then-sites-gt8 g c = too_many g.C.Calls.model c.args.sites.now (omega arith)
-
-pub returns : goal.returns
-returns g c = c.each_new.ensures ∙ enough g.C.Calls.model c.args.sites.now (omega arith) (omega arith)
+pub returns-then-is_group : goal.returns-then-is_group
+returns-then-is_group g c =
+    c.each_new.ensures ∙ each_is g.C.Calls.model c.in-Ok.count c.args.sites.now c.in-Ok.ensures.1 (sym c.if-is_group.ensures)
