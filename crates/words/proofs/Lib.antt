@@ -6,7 +6,6 @@ mod Every
 mod Rises
 mod Trials
 mod Counts
-mod Threes
 mod FirstWord
 mod Codes
 mod Heads

@@ -103,12 +103,7 @@ pub fn is_in_range(write: Write) -> bool
 pub fn all_fit(writes: &[Write]) -> bool
     ensures { result ≡ all_fit writes.now }
 {
-    for write in writes {
-        if !is_in_range(*write) {
-            return false;
-        }
-    }
-    true
+    writes.iter().all(|write| is_in_range(*write))
 }
 
 // Whether the writes are in range, with items that rise strictly.

@@ -36,15 +36,6 @@ pub(crate) fn is_head_of(head: u32, of: Kind, sites: u32, writes: &[u32]) -> boo
         && holds_writes(writes, count(head))
 }
 
-// Whether these words are an edit.
-fn is_edit(head: u32, ticket: u32, snapshot: u32, writes: &[u32], sites: u32) -> bool
-    ensures { result ≡ edit_fits sites head ticket snapshot writes.now }
-{
-    is_kind(ticket, Kind::Ticket, 1)
-        && is_kind(snapshot, Kind::Version, 0)
-        && is_head_of(head, Kind::Edit, sites, writes)
-}
-
 fn read_edit<'a>(words: &'a [u32], sites: u32) -> Option<Message<'a>>
     ensures message { option_map message_value result ≡ read_edit sites words.now }
     ensures borrowed { Borrowed words.entry result }
@@ -52,26 +43,19 @@ fn read_edit<'a>(words: &'a [u32], sites: u32) -> Option<Message<'a>>
     let [head, ticket, snapshot, writes @ ..] = words else {
         return None;
     };
-    if !is_edit(*head, *ticket, *snapshot, writes, sites) {
-        return None;
+    if is_kind(*ticket, Kind::Ticket, 1)
+        && is_kind(*snapshot, Kind::Version, 0)
+        && is_head_of(*head, Kind::Edit, sites, writes)
+    {
+        Some(Message::Edit {
+            site: site(*head),
+            ticket: load(*ticket),
+            snapshot: load(*snapshot),
+            writes,
+        })
+    } else {
+        None
     }
-    Some(Message::Edit {
-        site: site(*head),
-        ticket: load(*ticket),
-        snapshot: load(*snapshot),
-        writes,
-    })
-}
-
-// Whether these words are a report.
-fn is_report(head: u32, version: u32, sites: u32) -> bool
-    ensures { result ≡ report_fits sites head version }
-{
-    has_kind(head, Kind::Report)
-        && is_clear_between(head)
-        && count(head) == 0
-        && site(head) < sites
-        && is_kind(version, Kind::Version, 0)
 }
 
 fn read_report<'a>(words: &'a [u32], sites: u32) -> Option<Message<'a>>
@@ -81,13 +65,19 @@ fn read_report<'a>(words: &'a [u32], sites: u32) -> Option<Message<'a>>
     let [head, version] = words else {
         return None;
     };
-    if !is_report(*head, *version, sites) {
-        return None;
+    if has_kind(*head, Kind::Report)
+        && is_clear_between(*head)
+        && count(*head) == 0
+        && site(*head) < sites
+        && is_kind(*version, Kind::Version, 0)
+    {
+        Some(Message::Report {
+            site: site(*head),
+            version: load(*version),
+        })
+    } else {
+        None
     }
-    Some(Message::Report {
-        site: site(*head),
-        version: load(*version),
-    })
 }
 
 /// The edit or report that the words are in a group of `sites` sites, or none.

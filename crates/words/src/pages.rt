@@ -25,15 +25,6 @@ pub enum Page<'a> {
     },
 }
 
-// Whether these words are an entry.
-fn is_entry(head: u32, version: u32, ticket: u32, writes: &[u32], sites: u32) -> bool
-    ensures { result ≡ entry_fits sites head version ticket writes.now }
-{
-    is_kind(version, Kind::Version, 1)
-        && is_kind(ticket, Kind::Ticket, 1)
-        && is_head_of(head, Kind::Entry, sites, writes)
-}
-
 fn read_entry<'a>(words: &'a [u32], sites: u32) -> Option<Page<'a>>
     ensures page { option_map page_value result ≡ read_entry sites words.now }
     ensures borrowed { PageBorrowed words.entry result }
@@ -41,15 +32,19 @@ fn read_entry<'a>(words: &'a [u32], sites: u32) -> Option<Page<'a>>
     let [head, version, ticket, writes @ ..] = words else {
         return None;
     };
-    if !is_entry(*head, *version, *ticket, writes, sites) {
-        return None;
+    if is_kind(*version, Kind::Version, 1)
+        && is_kind(*ticket, Kind::Ticket, 1)
+        && is_head_of(*head, Kind::Entry, sites, writes)
+    {
+        Some(Page::Entry {
+            site: site(*head),
+            version: load(*version),
+            ticket: load(*ticket),
+            writes,
+        })
+    } else {
+        None
     }
-    Some(Page::Entry {
-        site: site(*head),
-        version: load(*version),
-        ticket: load(*ticket),
-        writes,
-    })
 }
 
 /// The number in the word of a known number.
@@ -73,18 +68,6 @@ fn are_known(words: &[u32], limit: u32) -> bool
     words.iter().all(|word| is_known(*word, limit))
 }
 
-// Whether these words are a closing page.
-fn is_closing(head: u32, version: u32, place: u32, known: &[u32], sites: u32) -> bool
-    ensures { result ≡ closing_fits sites head version place known.now }
-{
-    has_kind(head, Kind::Closing)
-        && load(head) == sites
-        && is_kind(version, Kind::Version, 0)
-        && is_kind(place, Kind::Place, load(version))
-        && known.len() == sites as usize
-        && are_known(known, load(version))
-}
-
 fn read_closing<'a>(words: &'a [u32], sites: u32) -> Option<Page<'a>>
     ensures page { option_map page_value result ≡ read_closing sites words.now }
     ensures borrowed { PageBorrowed words.entry result }
@@ -92,14 +75,21 @@ fn read_closing<'a>(words: &'a [u32], sites: u32) -> Option<Page<'a>>
     let [head, version, place, known @ ..] = words else {
         return None;
     };
-    if !is_closing(*head, *version, *place, known, sites) {
-        return None;
+    if has_kind(*head, Kind::Closing)
+        && load(*head) == sites
+        && is_kind(*version, Kind::Version, 0)
+        && is_kind(*place, Kind::Place, load(*version))
+        && known.len() == sites as usize
+        && are_known(known, load(*version))
+    {
+        Some(Page::Closing {
+            version: load(*version),
+            place: load(*place),
+            known,
+        })
+    } else {
+        None
     }
-    Some(Page::Closing {
-        version: load(*version),
-        place: load(*place),
-        known,
-    })
 }
 
 /// The entry or closing page that the words are in a group of `sites` sites, or none.
