@@ -1,5 +1,5 @@
 -- The write that begins the words, from its two words and back.
-use Rattle.std.proofs.Common.{◌≡◌, ℕ, ◌^◌, ◌<◌, ◌≤◌, Bool, true, false, cond, eqb, List, [], ◌∷◌, length, get_or, drop, is_some, Some, None, Option, refl, ap, arith}
+use Rattle.std.proofs.Common.{◌≡◌, ℕ, Bool, true, false, cond, eqb, List, [], ◌∷◌, drop, is_some, Some, None, Option, refl, ap, arith}
 use Rattle.std.specs.Option.{option_map}
 use Rattle.std.proofs.lemmas.Bool.{eq-eqb, eqb-true}
 use Rattle.words.specs.declared.changes.Change.{Change}
@@ -13,13 +13,6 @@ made_some b o i x p q = simp (p, q)
 
 pub write_of_some : (i c : ℕ) (x : Change) → kind_of i ≡ 5 → change_of c ≡ Some x → write_of i c ≡ Some (a_write (load_of i) x)
 write_of_some i c x p q = made_some (eqb (kind_of i) 5) (change_of c) (load_of i) x (eq-eqb (kind_of i) 5 p) q
-
--- What a front of an item word and a change word reads as.
-pub first_is : (ws : List ℕ) (x : Change) → 2 ≤ length ws → kind_of (get_or ws 0 0) ≡ 5 → change_of (get_or ws 1 0) ≡ Some x →
-    first_write ws ≡ Some (a_write (load_of (get_or ws 0 0)) x)
-first_is [] x h p q = absurd (omega arith)
-first_is (i ∷ []) x h p q = absurd (omega arith)
-first_is (i ∷ (c ∷ ws)) x h p q = write_of_some i c x p q
 
 -- What stands after it.
 pub after_is : (ws : List ℕ) (w : Write) → first_write ws ≡ Some w → after_write ws ≡ drop 2 ws
@@ -37,8 +30,3 @@ parts false n o w p = absurd (let z : ◌≡◌ {A = ℕ} 0 1 = cc in omega arit
 pub write_parts : (i c : ℕ) (w : Write) → write_of i c ≡ Some w → (kind_of i ≡ 5) × (w.item ≡ load_of i) × (change_of c ≡ Some w.change)
 write_parts i c w p =
     let q = parts (eqb (kind_of i) 5) (load_of i) (change_of c) w p in (eqb-true (kind_of i) 5 q.0, q.1, q.2)
-
-pub item_bound : (ws : List ℕ) (w : Write) → first_write ws ≡ Some w → w.item < 2 ^ 28
-item_bound [] w p = absurd (let z : ◌≡◌ {A = ℕ} 0 1 = cc in omega arith)
-item_bound (i ∷ []) w p = absurd (let z : ◌≡◌ {A = ℕ} 0 1 = cc in omega arith)
-item_bound (i ∷ (c ∷ ws)) w p = omega (arith, (write_parts i c w p).1)

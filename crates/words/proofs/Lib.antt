@@ -1,10 +1,6 @@
 -- Lemmas on words: each file cites only those above it.
-mod KindNumbers
-mod Shifts
 mod Fronts
 mod Every
-mod Rises
-mod Trials
 mod Counts
 mod FirstWord
 mod Codes

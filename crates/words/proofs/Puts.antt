@@ -43,11 +43,6 @@ write_more l o out i a b d h r e p q =
     let u = ap writes_words (take_more l i d h) ∙ writes_append (take i l) (get_or l i d ∷ []) in
     cc
 
-pub write_all : (l : List Write) (o out : List ℕ) (i : ℕ) → length l ≤ i → i ≤ length l →
-    out ≡ writes_words (take i l) ++ drop (2 * i) o → out ≡ writes_words l ++ drop (2 * length l) o
-write_all l o out i h k e =
-    let m : i ≡ length l = omega arith in let t = take_all i l h in cc
-
 -- the word of one known number more
 pub known_more : (l o out : List ℕ) (i a d : ℕ) → i < length l → length l ≤ length o →
     out ≡ map (word 11) (take i l) ++ drop i o → a ≡ word 11 (get_or l i d) →
@@ -57,10 +52,6 @@ known_more l o out i a d h r e p =
     let t = put_one (map (word 11) (take i l)) o i a n (omega arith) in
     let u = map_more (word 11) l i d h in
     cc
-
-pub known_all : (l o out : List ℕ) (i : ℕ) → length l ≤ i → i ≤ length l →
-    out ≡ map (word 11) (take i l) ++ drop i o → out ≡ map (word 11) l ++ drop (length l) o
-known_all l o out i h k e = let m : i ≡ length l = omega arith in let t = take_all i l h in cc
 
 -- three words by index, and then the part from the fourth word on
 pub put_three : (o p out : List ℕ) (a b c k : ℕ) → 3 ≤ length o → length p ≡ k →

@@ -16,11 +16,6 @@ within_more low high (k ∷ ks) h e =
     let b = leb-true k low a.0 in
     and_from _ _ (le-leb k high (omega arith)) (within_more low high ks h a.1)
 
-pub known_at : (ks : List ℕ) (i d : ℕ) → every (λ k. leb k 268435455) ks ≡ true → i < length ks → get_or ks i d < 268435456
-known_at [] i d e h = absurd (omega arith)
-known_at (k ∷ ks) zero d e h = let b = leb-true k 268435455 (and_parts (leb k 268435455) _ e).0 in omega arith
-known_at (k ∷ ks) (suc i) d e h = known_at ks i d (and_parts (leb k 268435455) _ e).1 (omega arith)
-
 -- each of the writes is in range
 pub fit_at : (l : List Write) (i : ℕ) (d : Write) → all_fit l ≡ true → i < length l →
     ((get_or l i d).item < 268435456) × (change_fits (get_or l i d).change ≡ true)

@@ -1,6 +1,6 @@
 use Rattle.std.proofs.Common.{arith}
 use Rattle.words.proofs.SpelledPages.{fit_at}
-use Rattle.words.proofs.Puts.{write_more, write_all}
+use Rattle.words.proofs.Puts.{write_more}
 use Rattle.words.proofs.put.put_writes.Goals as goal
 
 pub make_word-requires : goal.make_word-requires
@@ -13,7 +13,3 @@ pub loop-i-preserved : goal.loop-i-preserved
 loop-i-preserved c =
     write_more c.args.writes.now c.args.out.now c.loop-i.out c.loop-i.i _ _ _ (omega arith) c.requires.room
     c.loop-i.invariant c.make_word.ensures c.change_bits.ensures
-
-pub returns : goal.returns
-returns c =
-    write_all c.args.writes.now c.args.out.now c.loop-i.out c.loop-i.i (omega arith) (omega arith) c.loop-i.invariant

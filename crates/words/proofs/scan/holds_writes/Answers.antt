@@ -1,8 +1,7 @@
-use Rattle.std.proofs.Common.{◌≡◌, ℕ, ◌-◌, leb, List, length, drop, Some, Option, sym, ap, ◌∙◌, arith, rules}
+use Rattle.std.proofs.Common.{◌≡◌, ℕ, ◌-◌, leb, List, length, drop, Some, Option, sym, ap, ◌∙◌, arith}
 use Rattle.words.specs.declared.changes.Write.{Write}
 use Rattle.words.specs.Writes.{are_writes}
 use Rattle.words.specs.Scans.{write_at}
-use Rattle.words.proofs.Fronts.{item_bound}
 use Rattle.words.proofs.Counts.{more_at, stop_at, end_at}
 use Rattle.words.proofs.scan.holds_writes.Goals as goal
 
@@ -17,11 +16,6 @@ loop-init c =
 -- the write read, at the place of the reader
 found_at : (ws vs : List ℕ) (p : ℕ) {r : Option Write} {w : Write} → vs ≡ ws → r ≡ write_at vs p → r ≡ Some w → write_at ws p ≡ Some w
 found_at ws vs p e f g = ap (λ x. write_at x p) (sym e) ∙ sym f ∙ g
-
-pub overflow_add-low : goal.overflow_add-low
-overflow_add-low c =
-    let b = item_bound (drop c.loop.reader.place c.args.words.now) c.in-Some.write (found_at c.args.words.now c.loop.reader.words.now c.loop.reader.place c.loop.invariant.0 c.read_write.ensures.write c.in-Some.is) in
-    search rules
 
 pub returns-then-write-low : goal.returns-then-write-low
 returns-then-write-low c =
