@@ -69,6 +69,19 @@ put_three (x ∷ (y ∷ (z ∷ r))) p out a b c k h l e =
     ∙ ap (λ v. a ∷ (b ∷ (c ∷ v))) (append-nil out ∙ e ∙ ap (λ v. p ++ drop k v) t)
     ∙ ap (λ i. a ∷ (b ∷ (c ∷ (p ++ drop i r)))) (sym l)
 
+-- the same, with the three words put as a front
+pub put_front : (f o p out : List ℕ) (k : ℕ) → length f ≡ 3 → 3 ≤ length o → length p ≡ k →
+    out ≡ p ++ drop k (take (length (f ++ drop 3 o) - 3) (drop 3 (f ++ drop 3 o))) →
+    put_mid 3 (length (f ++ drop 3 o) - 3) (f ++ drop 3 o) out ≡ (f ++ p) ++ drop (length (f ++ p)) o
+put_front [] o p out k m h l e = absurd (omega arith)
+put_front (a ∷ []) o p out k m h l e = absurd (omega arith)
+put_front (a ∷ (b ∷ [])) o p out k m h l e = absurd (omega arith)
+put_front (a ∷ (b ∷ (c ∷ []))) [] p out k m h l e = absurd (omega arith)
+put_front (a ∷ (b ∷ (c ∷ []))) (x ∷ []) p out k m h l e = absurd (omega arith)
+put_front (a ∷ (b ∷ (c ∷ []))) (x ∷ (y ∷ [])) p out k m h l e = absurd (omega arith)
+put_front (a ∷ (b ∷ (c ∷ []))) (x ∷ (y ∷ (z ∷ r))) p out k m h l e = put_three (x ∷ (y ∷ (z ∷ r))) p out a b c k h l e
+put_front (a ∷ (b ∷ (c ∷ (d ∷ f)))) o p out k m h l e = absurd (omega arith)
+
 pub put_two : (o : List ℕ) (a b : ℕ) → 2 ≤ length o → set (set o 0 a) 1 b ≡ (a ∷ (b ∷ [])) ++ drop 2 o
 put_two [] a b h = absurd (omega arith)
 put_two (x ∷ []) a b h = absurd (omega arith)

@@ -28,7 +28,8 @@ pub(crate) fn read_change(word: u32) -> Option<Change>
     }
 }
 
-/// The write that begins the words and the words after it, or none and the words as they were.
+/// The write that begins the words and the words after it, or none and the words as they were: a pair and no option of a pair,
+/// so that a caller who finds no write goes on with the rest that it has.
 pub fn read_write(words: &[u32]) -> (Option<Write>, &[u32])
     ensures write { result.0 ≡ first_write words.now }
     ensures rest { result.1.now ≡ after_write words.now }

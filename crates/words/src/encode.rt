@@ -45,7 +45,7 @@ pub struct ReportParts {
     pub version: u32,
 }
 
-/// What an entry page says.
+/// What an entry page says. It is no edit with a version: the numbers have other bounds, and the words stand in another order.
 #[derive(Clone, Copy)]
 pub struct EntryParts<'a> {
     pub site: u32,
@@ -127,7 +127,7 @@ pub fn write_edit(out: &mut [u32], sites: u32, edit: EditParts<'_>) -> Result<us
     let head = make_head(Kind::Edit, edit.site, edit.writes.len() as u32);
     let ticket = make_word(Kind::Ticket, edit.ticket);
     let snapshot = make_word(Kind::Version, edit.snapshot);
-    put_with_writes(out, head, ticket, snapshot, edit.writes)
+    put_with_writes(out, [head, ticket, snapshot], edit.writes)
 }
 
 /// Writes a report of a group of `sites` sites, as `write_edit` writes an edit.

@@ -80,7 +80,8 @@ fn read_report<'a>(words: &'a [u32], sites: u32) -> Option<Message<'a>>
     }
 }
 
-/// The edit or report that the words are in a group of `sites` sites, or none.
+/// The edit or report that the words are in a group of `sites` sites, or none. `sites` may be any number: a type of sizes would
+/// have each caller refuse what is refused here once.
 pub fn read_message<'a>(words: &'a [u32], sites: u32) -> Option<Message<'a>>
     ensures message { option_map message_value result ≡ message_of sites words.now }
     ensures borrowed { Borrowed words.entry result }
@@ -99,7 +100,8 @@ pub fn read_message<'a>(words: &'a [u32], sites: u32) -> Option<Message<'a>>
     }
 }
 
-/// Which message the words are, as a program in C is told: 1 an edit, 2 a report, 0 neither, or `sites` is out of range.
+/// Which message the words are: 1 an edit, 2 a report, 0 neither, or `sites` is out of range. These are numbers and no enum,
+/// since a program in C is told them.
 pub fn message_kind(words: &[u32], sites: u32) -> u32
     ensures { result ≡ message_kind (message_of sites words.now) }
 {

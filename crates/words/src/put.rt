@@ -9,7 +9,8 @@ use crate::bits::{Kind, make_head, make_word};
 use crate::changes::{Write, change_bits};
 use crate::encode::{ClosingParts, EntryParts, Refusal};
 
-// The words of the writes, from the buffer's first word on.
+// The words of the writes, from the buffer's first word on. They are put by index, here and below: after `iter_mut` or
+// `chunks_exact_mut` a proof knows how long the buffer is, and none of its words.
 pub(crate) fn put_writes(out: &mut [u32], writes: &[Write])
     requires room { 2 * length writes.now ≤ length out.old }
     requires fit { all_fit writes.now ≡ true }
@@ -24,22 +25,18 @@ pub(crate) fn put_writes(out: &mut [u32], writes: &[Write])
 // Three words and then those of the writes, from the buffer's first word on.
 pub(crate) fn put_with_writes(
     out: &mut [u32],
-    head: u32,
-    second: u32,
-    third: u32,
+    front: [u32; 3],
     writes: &[Write],
 ) -> Result<usize, Refusal>
     requires { all_fit writes.now ≡ true }
-    ensures answer { reply result ≡ put_answer true (head ∷ (second ∷ (third ∷ writes_words writes.now))) out.old }
-    ensures after { out.new ≡ put_after true (head ∷ (second ∷ (third ∷ writes_words writes.now))) out.old }
+    ensures answer { reply result ≡ put_answer true (front ++ writes_words writes.now) out.old }
+    ensures after { out.new ≡ put_after true (front ++ writes_words writes.now) out.old }
 {
-    let count = 3 + 2 * writes.len();
+    let count = front.len() + 2 * writes.len();
     if out.len() < count {
         return Err(Refusal::TooShort);
     }
-    out[0] = head;
-    out[1] = second;
-    out[2] = third;
+    out[..3].copy_from_slice(&front);
     put_writes(&mut out[3..], writes);
     Ok(count)
 }
@@ -53,7 +50,7 @@ pub(crate) fn put_entry(out: &mut [u32], entry: EntryParts<'_>) -> Result<usize,
     let head = make_head(Kind::Entry, entry.site, entry.writes.len() as u32);
     let version = make_word(Kind::Version, entry.version);
     let ticket = make_word(Kind::Ticket, entry.ticket);
-    put_with_writes(out, head, version, ticket, entry.writes)
+    put_with_writes(out, [head, version, ticket], entry.writes)
 }
 
 // The words of known numbers, from the buffer's first word on.

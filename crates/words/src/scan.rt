@@ -6,7 +6,8 @@ ghost use Rattle.words.specs.Writes.{are_writes};
 use crate::bits::{Kind, has_kind, load};
 use crate::changes::{Write, read_change};
 
-/// Words, and the place of the next one to read.
+/// Words, and the place of the next one to read. The place is a number of its own, and the words stay whole, so that a trial can
+/// borrow the place alone and put it back.
 #[derive(Drop)]
 pub struct Reader<'a> {
     words: &'a [u32],
@@ -42,13 +43,9 @@ fn next_word(words: &[u32], place: &mut usize) -> Option<u32>
     ensures word { result ≡ word_at words.now place.old }
     ensures after { place.new ≡ place_after words.now place.old }
 {
-    let at = *place;
-    if at < words.len() {
-        *place = at + 1;
-        Some(words[at])
-    } else {
-        None
-    }
+    let word = *words.get(*place)?;
+    *place += 1;
+    Some(word)
 }
 
 impl<'a> Reader<'a> {
