@@ -1,37 +1,33 @@
--- One step of a walk over writes, or over the commits above a version.
-use Rattle.std.proofs.Common.{◌≡◌, ℕ, suc, ◌+◌, ◌<◌, ◌≤◌, Bool, false, cond, ◌||◌, eqb, List, map, length, get_or, drop, Some, None, sym, ap, ◌∙◌, add-one, arith}
-use lib.ListN.{length-map}
-use Rattle.std.proofs.lemmas.List.{at_drop_more, at_drop_all, get_or-map}
+-- The lowest clash, by the first commit above a version that meets the writes.
+use Rattle.std.proofs.Common.{◌≡◌, ℕ, suc, ◌+◌, Bool, true, false, cond, List, [], ◌∷◌, map, drop, Some, vec_items, refl, sym, ap, ◌∙◌, arith}
+use Rattle.std.specs.Option.{option_map}
+use Rattle.std.specs.List.{position, position_from}
+use Rattle.std.proofs.lemmas.List.{drop-map}
+use Rattle.std.proofs.lemmas.Iterator.Adapters.{position_from-zero}
 use Rattle.words.specs.declared.changes.Write.{Write}
 use Rattle.account.specs.declared.certify.Kept.{Kept}
-use Rattle.account.specs.Account.{touches, meets, lowest_clash}
+use Rattle.account.specs.Account.{meets, lowest_clash}
 use Rattle.account.specs.Kept.{committed}
 
--- the writes from place i on, by the one there
-pub touches_more : (x i : ℕ) (l : List Write) (d : Write) (b : Bool) → i < length l → eqb (get_or l i d).item x ≡ b →
-    touches x (drop i l) ≡ (b || touches x (drop (i + 1) l))
-touches_more x i l d b h e = at_drop_more (touches x) l i d h ∙ ap (λ y. y || touches x (drop (i + 1) l)) e
+module _ (l : List Write) where
+  abbrev pub clashes : Kept → Bool
+  clashes k = meets (vec_items k.writes) l
 
-pub touches_all : (x i : ℕ) (l : List Write) → length l ≤ i → touches x (drop i l) ≡ false
-touches_all x i l h = at_drop_all (touches x) l i h
+  clash_from : (v i : ℕ) (cs : List Kept) →
+      lowest_clash l (v + i) (map committed cs) ≡ option_map (λ j. v + j + 1) (position_from clashes i cs)
+  clash_from v i [] = refl
+  clash_from v i (k ∷ ks) =
+      let rest = lowest_clash l (suc (v + i)) (map committed ks) in
+      let next : suc (v + i) ≡ v + (i + 1) = omega arith in
+      elim (clashes k) as (λ b. cond b (Some (suc (v + i))) rest ≡ option_map (λ j. v + j + 1) (cond b (Some i) (position_from clashes (i + 1) ks))) [
+        | true ↦ ap Some (omega arith)
+        | false ↦ ap (λ n. lowest_clash l n (map committed ks)) next ∙ clash_from v (i + 1) ks
+      ]
 
-pub meets_more : (m : List Write) (i : ℕ) (l : List Write) (d : Write) (b : Bool) → i < length l → touches (get_or l i d).item m ≡ b →
-    meets (drop i l) m ≡ (b || meets (drop (i + 1) l) m)
-meets_more m i l d b h e = at_drop_more (λ k. meets k m) l i d h ∙ ap (λ y. y || meets (drop (i + 1) l) m) e
-
-pub meets_all : (m : List Write) (i : ℕ) (l : List Write) → length l ≤ i → meets (drop i l) m ≡ false
-meets_all m i l h = at_drop_all (λ k. meets k m) l i h
-
--- the commits above version v, by the next one
-module _ (l : List Write) (v : ℕ) (cs : List Kept) where
-  pub clash_more : (d : Kept) (b : Bool) → v < length cs → meets (committed (get_or cs v d)).writes l ≡ b →
-      lowest_clash l v (drop v (map committed cs)) ≡ cond b (Some (v + 1)) (lowest_clash l (v + 1) (drop (v + 1) (map committed cs)))
-  clash_more d b h e =
-      let k : v < length (map committed cs) = omega (arith, length-map cs committed) in
-      at_drop_more (lowest_clash l v) (map committed cs) v (committed d) k
-      ∙ ap (λ x. cond x (Some (suc v)) (lowest_clash l (suc v) (drop (v + 1) (map committed cs))))
-      (ap (λ c. meets c.writes l) (get_or-map committed cs v d (committed d) h) ∙ e)
-      ∙ ap (λ n. cond b (Some n) (lowest_clash l n (drop (v + 1) (map committed cs)))) (sym (add-one v))
-
-  pub clash_all : length cs ≤ v → lowest_clash l v (drop v (map committed cs)) ≡ None
-  clash_all h = at_drop_all (lowest_clash l v) (map committed cs) v (omega (arith, length-map cs committed))
+  pub clash_position : (v : ℕ) (cs : List Kept) →
+      lowest_clash l v (drop v (map committed cs)) ≡ option_map (λ j. v + j + 1) (position clashes (drop v cs))
+  clash_position v cs =
+      ap (lowest_clash l v) (drop-map committed v cs)
+      ∙ ap (λ n. lowest_clash l n (map committed (drop v cs))) (omega arith)
+      ∙ clash_from v 0 (drop v cs)
+      ∙ ap (option_map (λ j. v + j + 1)) (sym (position_from-zero clashes (drop v cs)))

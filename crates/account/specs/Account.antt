@@ -1,6 +1,6 @@
 -- The account of a list of messages: what each place decides, and what the decisions leave.
-use Rattle.std.specs.Prelude.{ℕ, zero, suc, min, max, Bool, true, false, cond, ◌||◌, List, [], ◌∷◌, ◌++◌, length, drop, replicate, Some, None, Option, ◌==◌, nat_lt}
-use Rattle.std.specs.List.{slice_get}
+use Rattle.std.specs.Prelude.{ℕ, zero, suc, min, max, Bool, true, false, cond, List, [], ◌∷◌, ◌++◌, length, drop, replicate, Some, None, Option, ◌==◌, nat_lt}
+use Rattle.std.specs.List.{slice_get, list_any}
 use Rattle.words.specs.declared.changes.Write.{Write}
 use Rattle.words.specs.Messages.{MessageValue, an_edit, a_report, message_of}
 use Rattle.account.specs.declared.decisions.Decision.{Decision}
@@ -45,13 +45,11 @@ raise (k ∷ ks) (suc i) r = k ∷ raise ks i r
 
 -- Whether one of the writes is to the item.
 abbrev pub touches : ℕ → List Write → Bool
-touches x [] = false
-touches x (w ∷ l) = w.item == x || touches x l
+touches x l = list_any (λ w. w.item == x) l
 
 -- Whether the two lists of writes have an item in common.
 abbrev pub meets : List Write → List Write → Bool
-meets [] m = false
-meets (w ∷ l) m = touches w.item m || meets l m
+meets l m = list_any (λ w. touches w.item m) l
 
 -- The lowest version above v whose commit writes an item of l; the list holds the commits above v.
 abbrev pub lowest_clash : List Write → ℕ → List Committed → Option ℕ

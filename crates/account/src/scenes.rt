@@ -1,10 +1,9 @@
 // Scenes: what the commits leave of each item.
-ghost use Rattle.std.specs.Prelude.{◌≡◌, ℕ, ◌<◌, ◌≤◌, map, length, IfOk, None, OnOk};
-ghost use Rattle.account.specs.Kept.{committed};
-ghost use Rattle.account.specs.SceneMaps.{InOrder, at_item, Only, Overlaid, Shows};
+ghost use Rattle.std.specs.Prelude.{OnOk};
+ghost use Rattle.account.specs.SceneMaps.{InOrder, Only, Overlaid};
 
 use crate::certify::Kept;
-use std::alloc::{AllocError, Global};
+use std::alloc::AllocError;
 use std::collections::BTreeMap;
 use words::changes::{Change, Write};
 
@@ -35,7 +34,7 @@ fn put(scene: &mut Scene, write: Write, version: u32) -> Result<(), AllocError>
 }
 
 // Carries out the writes of a version, one after another.
-fn put_all(scene: &mut Scene, writes: &[Write], version: u32) -> Result<(), AllocError>
+pub(crate) fn put_all(scene: &mut Scene, writes: &[Write], version: u32) -> Result<(), AllocError>
     requires { InOrder scene.old }
     ensures { OnOk result (Overlaid scene.old scene.new version writes.now) }
 {
@@ -43,16 +42,4 @@ fn put_all(scene: &mut Scene, writes: &[Write], version: u32) -> Result<(), Allo
         put(scene, *write, version)?;
     }
     Ok(())
-}
-
-// What all the commits leave, applied one after another to the empty scene.
-pub(crate) fn lay(heap: Global, commits: &[Kept]) -> Result<Scene, AllocError>
-    requires { length commits.now ≤ 268435455 }
-    ensures { IfOk result (λ m. Shows m (map committed commits.now)) }
-{
-    let mut scene = BTreeMap::new(heap);
-    for (i, commit) in commits.iter().enumerate() {
-        put_all(&mut scene, commit.writes.as_slice(), i as u32 + 1)?;
-    }
-    Ok(scene)
 }

@@ -6,14 +6,12 @@ ghost use Rattle.account.specs.Account.{raise, judged};
 ghost use Rattle.account.specs.Books.{books, Made, Entered, Lawful};
 
 use super::Accountant;
-use crate::certify::{Kept, find_clash};
+use crate::certify::Kept;
 use crate::decisions::{Decision, Fault};
 use std::alloc::Global;
 use words::changes::{Write, read_writes};
+use words::limits::{LIMIT, is_group};
 use words::messages::{Message, read_message};
-
-// The last place that a list can have.
-const LAST_PLACE: u32 = 268_435_455;
 
 // Number `i` becomes the larger of itself and `floor`.
 fn lift(numbers: &mut Vec<u32>, i: usize, floor: u32)
@@ -30,7 +28,7 @@ impl Accountant {
     pub fn new(heap: Global, sites: u32) -> Result<Accountant, Fault>
         ensures { Made sites result }
     {
-        if sites < 2 || 8 < sites {
+        if !is_group(sites) {
             return Err(Fault::GroupSize);
         }
         let known = vec![in heap; 0u32; sites as usize]?;
@@ -47,26 +45,33 @@ impl Accountant {
         ensures entered { Entered (books self.old) (books self.new) (message_of (books self.old).sites words.now) result }
         ensures lawful { Lawful (books self.old) (books self.new) words.now result }
     {
-        if self.places == LAST_PLACE {
+        if self.places == LIMIT {
             return Err(Fault::TooManyPlaces);
         }
-        let Some(message) = read_message(words, self.sites) else {
-            self.places += 1;
-            return Ok(Decision::Void);
-        };
-        match message {
-            Message::Report { site, version } => {
+        match read_message(words, self.sites) {
+            None => {
+                self.places += 1;
+                Ok(Decision::Void)
+            }
+            Some(Message::Report { site, version }) => {
                 self.note(site, version);
                 Ok(Decision::Noted)
             }
-            Message::Edit {
-                site,
-                ticket,
-                snapshot,
-                writes,
-            } => {
+            Some(
+                Message::Edit {
+                    site,
+                    ticket,
+                    snapshot,
+                    writes,
+                },
+            ) => {
                 let writes = read_writes(heap, writes)?;
-                self.enter(site, ticket, snapshot, writes)
+                let edit = Kept {
+                    home: site,
+                    ticket,
+                    writes,
+                };
+                self.enter(snapshot, edit)
             }
         }
     }
@@ -93,30 +98,20 @@ impl Accountant {
         if snapshot < self.horizon() {
             return Decision::TooOld;
         }
-        match find_clash(self.commits.as_slice(), snapshot, writes) {
+        match self.find_clash(snapshot, writes) {
             Some(version) => Decision::Conflict(version),
             None => Decision::Commit(last + 1),
         }
     }
 
     // Decides an edit, and keeps it if it commits.
-    fn enter(
-        &mut self,
-        home: u32,
-        ticket: u32,
-        snapshot: u32,
-        writes: Vec<Write>,
-    ) -> Result<Decision, Fault>
+    fn enter(&mut self, snapshot: u32, edit: Kept) -> Result<Decision, Fault>
         requires { self.old.places < 268435455 }
-        ensures { Entered (books self.old) (books self.new) (Some (an_edit home ticket snapshot writes.items)) result }
+        ensures { Entered (books self.old) (books self.new) (Some (an_edit edit.home edit.ticket snapshot edit.writes.items)) result }
     {
-        let decision = self.judge(snapshot, writes.as_slice());
+        let decision = self.judge(snapshot, edit.writes.as_slice());
         if let Decision::Commit(_) = decision {
-            self.commits.push(Kept {
-                home,
-                ticket,
-                writes,
-            })?;
+            self.commits.push(edit)?;
         }
         self.places += 1;
         Ok(decision)

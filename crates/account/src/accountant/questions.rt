@@ -1,25 +1,21 @@
 // What an accountant answers, changing nothing.
-ghost use Rattle.std.specs.Prelude.{◌≡◌, IfOk};
-ghost use Rattle.account.specs.Account.{least, horizon, last_version};
+ghost use Rattle.std.specs.Prelude.{◌≡◌, drop, IfOk};
+ghost use Rattle.account.specs.Account.{least, lowest_clash, horizon, last_version};
 ghost use Rattle.account.specs.Books.{books};
 ghost use Rattle.account.specs.SceneMaps.{Shows};
 
 use super::Accountant;
-use crate::scenes::{Scene, lay};
+use crate::certify::do_meet;
+use crate::scenes::{Scene, put_all};
 use std::alloc::{AllocError, Global};
+use std::collections::BTreeMap;
+use words::changes::Write;
 
 // The least of the numbers; 0 of none.
 fn find_least(numbers: &[u32]) -> u32
     ensures { result ≡ least numbers.now }
 {
-    let [first, rest @ ..] = numbers else {
-        return 0;
-    };
-    let mut low = *first;
-    for number in rest {
-        low = low.min(*number);
-    }
-    low
+    numbers.iter().copied().min().unwrap_or(0)
 }
 
 impl Accountant {
@@ -48,6 +44,21 @@ impl Accountant {
     pub fn scene(&self, heap: Global) -> Result<Scene, AllocError>
         ensures { IfOk result (λ m. Shows m (books self.now).account.commits) }
     {
-        lay(heap, self.commits.as_slice())
+        let mut scene = BTreeMap::new(heap);
+        for (i, commit) in self.commits.iter().enumerate() {
+            put_all(&mut scene, commit.writes.as_slice(), i as u32 + 1)?;
+        }
+        Ok(scene)
+    }
+
+    // The lowest version above the snapshot whose commit writes an item of these.
+    pub(crate) fn find_clash(&self, snapshot: u32, writes: &[Write]) -> Option<u32>
+        ensures { result ≡ lowest_clash writes.now snapshot (drop snapshot (books self.now).account.commits) }
+    {
+        let above = self.commits.get(snapshot as usize..)?;
+        let first = above
+            .iter()
+            .position(|commit| do_meet(commit.writes.as_slice(), writes))?;
+        Some(snapshot + first as u32 + 1)
     }
 }

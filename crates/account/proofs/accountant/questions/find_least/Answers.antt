@@ -1,21 +1,13 @@
-use Rattle.std.proofs.Common.{◌≡◌, ◌≤◌, length, get_or, sym, ap, ◌∙◌, rules}
-use Rattle.std.proofs.lemmas.List.{take_rest}
-use Rattle.account.proofs.KnownNumbers.{least_from, least_none, least_more, least_all, least_parts}
+use Rattle.std.proofs.Common.{sym, ap, ◌∙◌}
+use Rattle.std.specs.Option.{unwrap_or}
+use Rattle.std.proofs.lemmas.Iterator.{YieldsList-from_slice}
+use Rattle.std.proofs.lemmas.Iterator.Adapters.{option_map_id}
+use Rattle.std.proofs.lemmas.Iterator.Consumers.{YieldsList-from_copied, min_from_yields_List}
+use Rattle.account.proofs.KnownNumbers.{least_is}
 use Rattle.account.proofs.accountant.questions.find_least.Goals as goal
 
-pub returns-in_default : goal.returns-in_default
-returns-in_default c = let h : length c.args.numbers.now ≡ 0 = search rules in least_none c.args.numbers.now h
-
-pub loop-number-init : goal.loop-number-init
-loop-number-init c =
-    let ks = c.args.numbers.now in
-    let h : 1 ≤ length ks = search rules in
-    ap (least_from (get_or ks 0 0)) (take_rest ks 1) ∙ least_parts ks h
-
-pub loop-number-preserved : goal.loop-number-preserved
-loop-number-preserved c =
-    least_more c.loop-number.low c.min-low.result c.loop-number.number-index _ c.loop-number-test.true c.min-low.ensures
-    ∙ c.loop-number.invariant
-
 pub returns : goal.returns
-returns c = sym (least_all c.loop-number.low c.loop-number.number-index _ c.loop-number-test.false) ∙ c.loop-number.invariant
+returns c =
+    let chain = YieldsList-from_copied (YieldsList-from_slice c.args.numbers.now cc) in
+    let low = sym (option_map_id _) ∙ min_from_yields_List c.copied.result _ c.min.ensures.ran chain in
+    c.unwrap_or.ensures ∙ ap (λ o. unwrap_or o 0) low ∙ sym (least_is c.args.numbers.now)
