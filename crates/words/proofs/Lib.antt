@@ -1,6 +1,7 @@
 -- Lemmas on words: each file cites only those above it.
 mod Fronts
 mod Every
+mod Rising
 mod Counts
 mod FirstWord
 mod Codes

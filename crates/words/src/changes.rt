@@ -86,18 +86,11 @@ fn is_change(change: Change) -> bool
     }
 }
 
-// Whether the write is in range, with an item that is not below the least.
-fn is_write(write: Write, least: u32) -> bool
-    ensures { result ≡ write_fits least write }
-{
-    fits(write.item, least) && is_change(write.change)
-}
-
 /// Whether item and value are in range.
 pub fn is_in_range(write: Write) -> bool
     ensures { result ≡ write_fits 0 write }
 {
-    is_write(write, 0)
+    fits(write.item, 0) && is_change(write.change)
 }
 
 /// Whether each write is in range, whatever the order of the items.
@@ -111,14 +104,7 @@ pub fn all_fit(writes: &[Write]) -> bool
 fn do_rise(writes: &[Write]) -> bool
     ensures { result ≡ fit_from 0 writes.now }
 {
-    let mut least = 0;
-    for write in writes {
-        if !is_write(*write, least) {
-            return false;
-        }
-        least = write.item + 1;
-    }
-    true
+    all_fit(writes) && writes.is_sorted_by(|write, next| write.item < next.item)
 }
 
 // Whether these can be the writes of one edit: 1 to 16, in range, by rising item.

@@ -11,7 +11,7 @@ use crate::encode::{ClosingParts, EntryParts, Refusal};
 
 // The words of the writes, from the buffer's first word on. They are put by index, here and below: after `iter_mut` or
 // `chunks_exact_mut` a proof knows how long the buffer is, and none of its words.
-pub(crate) fn put_writes(out: &mut [u32], writes: &[Write])
+fn put_writes(out: &mut [u32], writes: &[Write])
     requires room { 2 * length writes.now ≤ length out.old }
     requires fit { all_fit writes.now ≡ true }
     ensures { out.new ≡ writes_words writes.now ++ drop (2 * length writes.now) out.old }
@@ -54,7 +54,7 @@ pub(crate) fn put_entry(out: &mut [u32], entry: EntryParts<'_>) -> Result<usize,
 }
 
 // The words of known numbers, from the buffer's first word on.
-pub(crate) fn put_known(out: &mut [u32], known: &[u32])
+fn put_known(out: &mut [u32], known: &[u32])
     requires room { length known.now ≤ length out.old }
     requires fit { every (λ k. nat_le k 268435455) known.now ≡ true }
     ensures { out.new ≡ map (word 11) known.now ++ drop (length known.now) out.old }
