@@ -1,20 +1,20 @@
 // Damaged pages: each is none, or is read as exactly what its words say.
-use crate::examples::{CLOSING_WORDS, ENTRY_WORDS};
-use crate::respelled::{Form, just_these_turn, no_front_reads, reads_as_its_words};
+use crate::examples::{CLOSING_WORDS, ENTRY_WORDS, with};
+use crate::respelled::{Pages, just_these_turn, no_front_reads, reads_as_its_words};
 use std::test::Fail;
 use words::pages::read_page;
 
 #[test]
 fn page_reads_as_its_words(rt: HostRuntime) -> Result<(), Fail> {
-    assert!(rt; reads_as_its_words(&rt, rt.alloc(), Form::Page, &ENTRY_WORDS, 3)?);
-    assert!(rt; reads_as_its_words(&rt, rt.alloc(), Form::Page, &CLOSING_WORDS, 3)?);
+    assert!(rt; reads_as_its_words(&rt, rt.alloc(), &Pages, &ENTRY_WORDS, 3)?);
+    assert!(rt; reads_as_its_words(&rt, rt.alloc(), &Pages, &CLOSING_WORDS, 3)?);
     Ok(())
 }
 
 #[test]
 fn page_cut_at_any_length_is_none(rt: HostRuntime) -> Result<(), Fail> {
-    no_front_reads(&rt, rt.alloc(), Form::Page, &ENTRY_WORDS, 3)?;
-    no_front_reads(&rt, rt.alloc(), Form::Page, &CLOSING_WORDS, 3)
+    no_front_reads(&rt, rt.alloc(), &Pages, &ENTRY_WORDS, 3)?;
+    no_front_reads(&rt, rt.alloc(), &Pages, &CLOSING_WORDS, 3)
 }
 
 // As in an edit, but that the version may not become 0.
@@ -30,7 +30,7 @@ fn entry_with_a_bit_turned_is_none_or_its_words(rt: HostRuntime) -> Result<(), F
         0x1000_0000,
     ];
     let mut words = ENTRY_WORDS;
-    just_these_turn(&rt, rt.alloc(), Form::Page, &mut words, 8, &free)
+    just_these_turn(&rt, rt.alloc(), &Pages, &mut words, 8, &free)
 }
 
 // The version stays at 4 to 6, the place is not below it, and the known numbers are not above it.
@@ -45,7 +45,7 @@ fn closing_with_a_bit_turned_is_none_or_its_words(rt: HostRuntime) -> Result<(),
         0x0000_0003,
     ];
     let mut words = CLOSING_WORDS;
-    just_these_turn(&rt, rt.alloc(), Form::Page, &mut words, 3, &free)
+    just_these_turn(&rt, rt.alloc(), &Pages, &mut words, 3, &free)
 }
 
 fn is_page(words: &[u32], sites: u32) -> bool {
@@ -54,11 +54,7 @@ fn is_page(words: &[u32], sites: u32) -> bool {
 
 // Whether the entry with one of its words replaced is a page.
 fn entry_with(place: usize, word: u32) -> bool {
-    let mut words = ENTRY_WORDS;
-    if place < 7 {
-        words[place] = word;
-    }
-    is_page(&words, 3)
+    is_page(&with(ENTRY_WORDS, place, word), 3)
 }
 
 #[test]
@@ -79,11 +75,7 @@ fn entry_with_a_wrong_word_is_none(rt: HostRuntime) {
 
 // Whether the closing page with one of its words replaced is a page.
 fn closing_with(place: usize, word: u32) -> bool {
-    let mut words = CLOSING_WORDS;
-    if place < 6 {
-        words[place] = word;
-    }
-    is_page(&words, 3)
+    is_page(&with(CLOSING_WORDS, place, word), 3)
 }
 
 #[test]

@@ -76,3 +76,11 @@ pub fn closing() -> ClosingParts<'static> {
         known: &[2, 4, 3],
     }
 }
+
+// The words with one of them replaced.
+pub fn with<const N: usize>(mut words: [u32; N], place: usize, word: u32) -> [u32; N] {
+    if place < words.len() {
+        words[place] = word;
+    }
+    words
+}

@@ -1,7 +1,7 @@
 // Words read and written again: what is read of any words has these words.
 ghost use Rattle.std.specs.Prelude.{◌<◌, length};
 
-use std::alloc::{AllocError, Global};
+use std::alloc::Global;
 use std::process::Abort;
 use std::test::Fail;
 use words::changes::read_writes;
@@ -10,97 +10,101 @@ use words::encode::{
     write_report,
 };
 use words::messages::{Message, read_message};
-use words::pages::{Page, read_page};
+use words::pages::{Page, known_number, read_page};
 
-// The words of a message, or of a page.
-#[derive(Clone, Copy)]
-pub enum Form {
-    Message,
-    Page,
+// What words can be read as: a message, or a page.
+pub trait Form {
+    // How many words that has which the words are, written into the buffer; none where they are no such thing.
+    fn respell(
+        &self,
+        heap: Global,
+        words: &[u32],
+        sites: u32,
+        out: &mut [u32],
+    ) -> Result<Option<usize>, Fail>;
 }
 
-// How many words the message has that the words are, written into the buffer; none where they are no message.
-fn respell_message(
-    heap: Global,
-    words: &[u32],
-    sites: u32,
-    out: &mut [u32],
-) -> Result<Option<usize>, Fail> {
-    match read_message(words, sites) {
-        Some(
-            Message::Edit {
-                site,
-                ticket,
-                snapshot,
-                writes,
-            },
-        ) => {
-            let writes = read_writes(heap, writes)?;
-            let edit = EditParts {
-                site,
-                ticket,
-                snapshot,
-                writes: writes.as_slice(),
-            };
-            Ok(Some(write_edit(out, sites, edit)?))
+pub struct Messages;
+
+pub struct Pages;
+
+impl Form for Messages {
+    fn respell(
+        &self,
+        heap: Global,
+        words: &[u32],
+        sites: u32,
+        out: &mut [u32],
+    ) -> Result<Option<usize>, Fail> {
+        match read_message(words, sites) {
+            Some(
+                Message::Edit {
+                    site,
+                    ticket,
+                    snapshot,
+                    writes,
+                },
+            ) => {
+                let writes = read_writes(heap, writes)?;
+                let edit = EditParts {
+                    site,
+                    ticket,
+                    snapshot,
+                    writes: writes.as_slice(),
+                };
+                Ok(Some(write_edit(out, sites, edit)?))
+            }
+            Some(Message::Report { site, version }) => {
+                Ok(Some(write_report(out, sites, ReportParts { site, version })?))
+            }
+            None => Ok(None),
         }
-        Some(Message::Report { site, version }) => {
-            Ok(Some(write_report(out, sites, ReportParts { site, version })?))
-        }
-        None => Ok(None),
     }
 }
 
-// The numbers that the words carry.
-fn loads(heap: Global, words: &[u32]) -> Result<Vec<u32>, AllocError> {
-    let mut numbers = Vec::new(heap);
-    for word in words {
-        numbers.push(*word & 0x0fff_ffff)?;
-    }
-    Ok(numbers)
-}
-
-// How many words the page has that the words are, written into the buffer; none where they are no page.
-fn respell_page(
-    heap: Global,
-    words: &[u32],
-    sites: u32,
-    out: &mut [u32],
-) -> Result<Option<usize>, Fail> {
-    match read_page(words, sites) {
-        Some(
-            Page::Entry {
-                site,
-                version,
-                ticket,
-                writes,
-            },
-        ) => {
-            let writes = read_writes(heap, writes)?;
-            let entry = EntryParts {
-                site,
-                version,
-                ticket,
-                writes: writes.as_slice(),
-            };
-            Ok(Some(write_entry(out, sites, entry)?))
+impl Form for Pages {
+    fn respell(
+        &self,
+        heap: Global,
+        words: &[u32],
+        sites: u32,
+        out: &mut [u32],
+    ) -> Result<Option<usize>, Fail> {
+        match read_page(words, sites) {
+            Some(
+                Page::Entry {
+                    site,
+                    version,
+                    ticket,
+                    writes,
+                },
+            ) => {
+                let writes = read_writes(heap, writes)?;
+                let entry = EntryParts {
+                    site,
+                    version,
+                    ticket,
+                    writes: writes.as_slice(),
+                };
+                Ok(Some(write_entry(out, sites, entry)?))
+            }
+            Some(
+                Page::Closing {
+                    version,
+                    place,
+                    known,
+                },
+            ) => {
+                let known: Vec<u32> = known.iter().map(|word| known_number(*word)).collect(heap)?;
+                let closing = ClosingParts {
+                    version,
+                    place,
+                    known: known.as_slice(),
+                };
+                Ok(Some(write_closing(out, sites, closing)?))
+            }
+            None => Ok(None),
         }
-        Some(
-            Page::Closing {
-                version,
-                place,
-                known,
-            },
-        ) => {
-            let known = loads(heap, known)?;
-            let closing = ClosingParts {
-                version,
-                place,
-                known: known.as_slice(),
-            };
-            Ok(Some(write_closing(out, sites, closing)?))
-        }
-        None => Ok(None),
     }
 }
 
@@ -108,16 +112,12 @@ fn respell_page(
 pub fn reads_as_its_words(
     rt: &impl Abort,
     heap: Global,
-    form: Form,
+    form: &impl Form,
     words: &[u32],
     sites: u32,
 ) -> Result<bool, Fail> {
     let mut out = [0; 40];
-    let respelled = match form {
-        Form::Message => respell_message(heap, words, sites, &mut out)?,
-        Form::Page => respell_page(heap, words, sites, &mut out)?,
-    };
-    let Some(count) = respelled else {
+    let Some(count) = form.respell(heap, words, sites, &mut out)? else {
         return Ok(false);
     };
     assert!(rt; count <= 40);
@@ -129,7 +129,7 @@ pub fn reads_as_its_words(
 fn bits_to_turn(
     rt: &impl Abort,
     heap: Global,
-    form: Form,
+    form: &impl Form,
     words: &mut [u32],
     place: usize,
     sites: u32,
@@ -151,17 +151,14 @@ fn bits_to_turn(
 pub fn just_these_turn(
     rt: &impl Abort,
     heap: Global,
-    form: Form,
+    form: &impl Form,
     words: &mut [u32],
     sites: u32,
     free: &[u32],
 ) -> Result<(), Fail> {
     assert!(rt; words.len() == free.len());
-    for place in 0..words.len() {
-        assert_eq!(rt;
-            bits_to_turn(rt, heap, form, words, place, sites)?,
-            free[place]
-        );
+    for (place, bits) in free.iter().enumerate() {
+        assert_eq!(rt; bits_to_turn(rt, heap, form, words, place, sites)?, *bits);
     }
     Ok(())
 }
@@ -170,7 +167,7 @@ pub fn just_these_turn(
 pub fn no_front_reads(
     rt: &impl Abort,
     heap: Global,
-    form: Form,
+    form: &impl Form,
     words: &[u32],
     sites: u32,
 ) -> Result<(), Fail> {
