@@ -1,3 +1,3 @@
-mod Fronts
 pub mod Numbers
 pub mod Entries
+mod Spelt

@@ -1,7 +1,7 @@
 -- What counters hold.
-use Rattle.std.specs.Prelude.{take}
+use Rattle.few.specs.Lists.{few_items}
 use Rattle.logs.specs.declared.counters.Counters.{Counters}
 use Rattle.logs.specs.LogModel.{Marks, a_mark}
 
 abbrev pub counters_marks : Counters → Marks
-counters_marks c = a_mark c.place (take c.sites c.known) c.tickets c.whole
+counters_marks c = a_mark c.place (few_items c.known) c.tickets c.whole

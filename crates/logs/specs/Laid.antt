@@ -11,7 +11,6 @@ use Rattle.logs.specs.RingModel.{ring_items, ring_size}
 use Rattle.logs.specs.PageWords.{page_words, pages_words, begins, entries_in}
 use Rattle.logs.specs.PagesModel.{pages_entries, pages_held, Located}
 use Rattle.logs.specs.Holding.{entry_some, append_parts, append_taken, above_more}
-use Rattle.logs.specs.Rings.{ring_count}
 use Rattle.logs.specs.Loggable.{loggable_push, loggable_drop, loggable_take, loggable_at}
 use Rattle.logs.specs.PageLaws.{length_pages, pages_back, pages_push, pages_drop, length_begins, begins_push, begins_drop, begins_at, page_at, cost_bound, cost_least, cost_front}
 
@@ -210,6 +209,6 @@ pages_bounds p = record {
   write_cost_bound = omega arith;
   last_bound = omega (arith, pages_last p, p.high);
   capacity_bound = omega (arith, p.small);
-  affordable = omega (arith, pages_cost p, ring_count p.words, p.words.room);
+  affordable = omega (arith, pages_cost p, p.words.within);
   readable = p.sound;
 }

@@ -1,5 +1,4 @@
 pub mod LogModel
-pub mod Window
 pub mod RingModel
 pub mod CountersModel
 pub mod RowModel
@@ -11,8 +10,6 @@ pub mod PagesModel
 pub mod PackedModel
 pub mod Laws
 pub mod LogBounds
-pub mod Rings
-pub mod Windows
 pub mod Tables
 pub mod Holding
 pub mod Loggable

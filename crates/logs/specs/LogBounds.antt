@@ -19,7 +19,7 @@ pub kept_bounded : {H : Type 0} {entry_cost write_cost : ℕ} (held_of : H → H
 kept_bounded held_of bounds l =
     let b = bounds l.holder in
     let k = l.counters in
-    let n = length-take-le k.sites k.known (omega (arith, k.eight, k.few)) in
+    let n = length-take-le k.known.count k.known.items (omega (arith, k.known.memory, k.known.few)) in
     record {
       last_bound = b.last_bound;
       capacity_bound = b.capacity_bound;
@@ -30,8 +30,8 @@ kept_bounded held_of bounds l =
       place_bound = k.placed;
       tickets_bound = k.counted;
       known_bound = k.within;
-      few_sites = omega (arith, n, k.few);
-      two_sites = omega (arith, n, k.two);
+      few_sites = omega (arith, n, k.known.few);
+      two_sites = k.two;
     }
 
 pub flat_bounded : (l : Kept Table) → Bounded (flat_model l)

@@ -1,12 +1,13 @@
 -- Entries as words: each as its page, one page after another.
 use Rattle.std.specs.Prelude.{ℕ, zero, suc, ◌+◌, List, [], ◌∷◌, ◌++◌, length, take, drop, slice_index}
-use Rattle.words.specs.Bits.{load_of, word, site_of, count_of, head}
-use Rattle.words.specs.Writes.{leading, writes_words}
+use Rattle.words.specs.Bits.{load_of, site_of, count_of}
+use Rattle.words.specs.Writes.{leading}
+use Rattle.words.specs.Pages.{page_words as spelt, an_entry as entry_page}
 use Rattle.logs.specs.LogModel.{Entry, an_entry, cost}
 
 -- The page of version v: head, version, ticket, then the writes.
 abbrev pub page_words : ℕ → Entry → List ℕ
-page_words v e = head 8 e.home (length e.writes) ∷ (word 4 v ∷ (word 3 e.ticket ∷ writes_words e.writes))
+page_words v e = spelt (entry_page e.home v e.ticket e.writes)
 
 -- The pages of entries, of which the first has version v.
 abbrev pub pages_words : ℕ → List Entry → List ℕ

@@ -13,7 +13,6 @@ use Rattle.logs.specs.RowModel.{row_entry}
 use Rattle.logs.specs.TableModel.{table_held}
 use Rattle.logs.specs.Holding.{entry_some, append_parts, append_taken, above_more}
 use Rattle.logs.specs.Loggable.{loggable_push, loggable_drop}
-use Rattle.logs.specs.Rings.{ring_count}
 
 -- at a cost of 1 for each entry and none for a write
 pub flat_cost : (es : List Entry) → total_cost 1 0 es ≡ length es
@@ -83,7 +82,7 @@ module _ (t : Table) (v b : ℕ) (bound : b ≡ min v (last_held (table_held t))
 
 -- what holds of a table's entries
 table_affordable : (t : Table) → total_cost 1 0 (table_held t).entries ≤ ring_size t.rows
-table_affordable t = omega (arith, flat_cost (table_held t).entries, table_long t, ring_count t.rows, t.rows.room)
+table_affordable t = omega (arith, flat_cost (table_held t).entries, table_long t, t.rows.within)
 
 pub table_bounds : (t : Table) → HeldBounds 1 0 (table_held t)
 table_bounds t = record {

@@ -2,7 +2,6 @@
 #![tactic(auto)]
 
 pub mod api;
-pub(crate) mod copies;
 pub(crate) mod counters;
 pub mod flat;
 pub mod heads;

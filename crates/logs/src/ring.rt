@@ -1,14 +1,16 @@
-// A queue in a ring of memory: elements are added at its end and removed from its front.
-ghost use Rattle.std.specs.Prelude.{◌≤◌, vec_len};
+// A queue in memory that was handed over: elements are added at its end and removed from its front.
+ghost use Rattle.std.specs.Prelude.{◌≤◌, length};
+ghost use Rattle.std.specs.VecDeque.{deque_capacity};
+
+use std::collections::VecDeque;
 
 pub mod ops;
 
 #[derive(Drop)]
 pub(crate) struct Ring<T> {
-    memory: Vec<T>,
-    // Where the first element is, and how many there are.
-    start: usize,
-    count: usize,
-    ghost begins: { start ≤ vec_len memory },
-    ghost room: { count ≤ vec_len memory },
+    elements: VecDeque<T>,
+    // How many elements it takes.
+    size: usize,
+    ghost within: { length elements.items ≤ size },
+    ghost room: { size ≤ deque_capacity elements },
 }

@@ -1,6 +1,5 @@
-// One entry of a flat log: a table of the most writes that an entry has, of which the first are in use.
-ghost use Rattle.std.specs.Prelude.{◌≡◌, ◌≤◌, length};
-
+// One entry of a flat log, in memory for the most writes that an entry has.
+use few::Few;
 use words::changes::Write;
 
 pub mod ops;
@@ -10,8 +9,5 @@ pub mod ops;
 pub struct FlatEntry {
     home: u32,
     ticket: u32,
-    count: usize,
-    writes: [Write; 16],
-    ghost sixteen: { length writes ≡ 16 },
-    ghost few: { count ≤ 16 },
+    writes: Few<Write, 16>,
 }

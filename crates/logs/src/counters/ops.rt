@@ -6,7 +6,7 @@ ghost use Rattle.logs.specs.LogModel.{first_marks, least, mark_passed, mark_note
 ghost use Rattle.logs.specs.CountersModel.{counters_marks};
 
 use super::Counters;
-use crate::copies::overwrite;
+use few::Few;
 use words::limits::{LIMIT, are_within};
 
 // The least of the numbers, of which there is one at least.
@@ -27,8 +27,7 @@ impl Counters {
     {
         Counters {
             place: 0,
-            known: [0; 8],
-            sites: sites as usize,
+            known: Few::from_slice(0, &[0; 8][0..sites as usize]),
             tickets: 0,
             whole: true,
         }
@@ -37,7 +36,7 @@ impl Counters {
     pub(crate) fn sites(&self) -> u32
         ensures { result ≡ length (counters_marks self.now).known }
     {
-        self.sites as u32
+        self.known.len() as u32
     }
 
     pub(crate) fn place(&self) -> u32
@@ -49,17 +48,13 @@ impl Counters {
     pub(crate) fn known(&self, site: u32) -> Option<u32>
         ensures { result ≡ slice_get (counters_marks self.now).known site }
     {
-        if (site as usize) < self.sites {
-            Some(self.known[site as usize])
-        } else {
-            None
-        }
+        self.known.get(site as usize)
     }
 
     pub(crate) fn least(&self) -> u32
         ensures { result ≡ least (counters_marks self.now).known }
     {
-        least_of(&self.known[0..self.sites])
+        least_of(self.known.as_slice())
     }
 
     pub(crate) fn tickets(&self) -> u32
@@ -92,18 +87,18 @@ impl Counters {
     pub(crate) fn note(&mut self, site: u32, number: u32)
         ensures { counters_marks self.new ≡ mark_noted (counters_marks self.old) site number }
     {
-        if (site as usize) < self.sites && number <= LIMIT && self.place < LIMIT {
+        if (site as usize) < self.known.len() && number <= LIMIT && self.place < LIMIT {
             self.place += 1;
-            self.known[site as usize] = number;
+            let _ = self.known.replace(site as usize, number);
         }
     }
 
     pub(crate) fn close(&mut self, place: u32, known: &[u32])
         ensures { counters_marks self.new ≡ mark_closed (counters_marks self.old) place known.now }
     {
-        if known.len() == self.sites && place <= LIMIT && are_within(known, LIMIT) {
+        if known.len() == self.known.len() && place <= LIMIT && are_within(known, LIMIT) {
             self.place = place;
-            overwrite(&mut self.known, known);
+            self.known = Few::from_slice(0, known);
             self.whole = true;
         }
     }

@@ -8,9 +8,10 @@ ghost use Rattle.logs.specs.Laid.{pages_bounds};
 use super::Pages;
 use crate::heads::{EntryHead, NewEntry};
 use crate::holder::Holder;
-use crate::page::{count, home, load, push_page};
+use crate::page::push_page;
 use crate::ring::Ring;
 use std::alloc::Global;
+use words::bits::{count, load, site};
 use words::changes::{Write, read_write};
 
 // The most words in a ring.
@@ -74,7 +75,7 @@ impl Holder for Pages {
         let page = self.page_of(version)?;
         let head = *self.words.at(page);
         Some(EntryHead {
-            home: home(head),
+            home: site(head),
             ticket: load(*self.words.at(page + 2)),
             count: count(head),
         })

@@ -1,46 +1,34 @@
 // What a ring does.
-ghost use Rattle.std.specs.Prelude.{◌≡◌, ◌+◌, ◌-◌, ◌<◌, ◌≤◌, min, [], ◌∷◌, ◌++◌, length, drop, vec_len, slice_index_or};
-ghost use Rattle.logs.specs.Window.{place_after};
+ghost use Rattle.std.specs.Prelude.{◌≡◌, ◌+◌, ◌<◌, ◌≤◌, min, [], ◌∷◌, ◌++◌, length, drop, vec_len, slice_index_or};
 ghost use Rattle.logs.specs.RingModel.{ring_items, ring_size};
 
 use super::Ring;
-
-// The place that many further on, in a ring of that size.
-fn place_after(size: usize, start: usize, by: usize) -> usize
-    requires begins { start ≤ size }
-    requires within { by ≤ size }
-    ensures { result ≡ place_after size start by }
-{
-    let to_end = size - start;
-    if by < to_end { start + by } else { by - to_end }
-}
+use std::collections::VecDeque;
 
 impl<T: Copy> Ring<T> {
     // An empty ring in that memory, of which it uses at most the limit.
-    pub(crate) fn new(mut memory: Vec<T>, limit: usize) -> Ring<T>
+    pub(crate) fn new(memory: Vec<T>, limit: usize) -> Ring<T>
         ensures items { ring_items result ≡ [] }
         ensures size { ring_size result ≡ min (vec_len memory) limit }
     {
-        memory.truncate(limit);
-        Ring {
-            memory,
-            start: 0,
-            count: 0,
-        }
+        let size = memory.len().min(limit);
+        let mut elements = VecDeque::from_vec(memory);
+        elements.clear();
+        Ring { elements, size }
     }
 
     // How many elements there is memory for.
     pub(crate) fn size(&self) -> usize
         ensures { result ≡ ring_size self.now }
     {
-        self.memory.len()
+        self.size
     }
 
     pub(crate) fn len(&self) -> usize
         ensures value { result ≡ length (ring_items self.now) }
         ensures bound { result ≤ ring_size self.now }
     {
-        self.count
+        self.elements.len()
     }
 
     // The element at that place, counted from the front.
@@ -48,19 +36,27 @@ impl<T: Copy> Ring<T> {
         requires { place < length (ring_items self.now) }
         ensures { result.now ≡ slice_index_or (ring_items self.now) place result.now }
     {
-        &self.memory[place_after(self.memory.len(), self.start, place)]
+        &self.elements[place]
     }
 
     // Adds an element at the end.
     pub(crate) fn push(&mut self, item: T)
         requires { length (ring_items self.old) < ring_size self.old }
         ensures items { ring_items self.new ≡ ring_items self.old ++ (item ∷ []) }
-        ensures len { length (ring_items self.new) ≡ length (ring_items self.old) + 1 }
         ensures size { ring_size self.new ≡ ring_size self.old }
     {
-        let end = place_after(self.memory.len(), self.start, self.count);
-        self.memory[end] = item;
-        self.count += 1;
+        self.elements.push_back_reserved(item);
+    }
+
+    // Adds elements at the end.
+    pub(crate) fn extend(&mut self, items: &[T])
+        requires { length (ring_items self.old) + length items.now ≤ ring_size self.old }
+        ensures items { ring_items self.new ≡ ring_items self.old ++ items.now }
+        ensures size { ring_size self.new ≡ ring_size self.old }
+    {
+        for item in items {
+            self.push(*item);
+        }
     }
 
     // Removes that many elements from the front.
@@ -69,7 +65,6 @@ impl<T: Copy> Ring<T> {
         ensures items { ring_items self.new ≡ drop count (ring_items self.old) }
         ensures size { ring_size self.new ≡ ring_size self.old }
     {
-        self.start = place_after(self.memory.len(), self.start, count);
-        self.count -= count;
+        drop(self.elements.drain(..count));
     }
 }

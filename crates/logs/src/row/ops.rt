@@ -5,8 +5,8 @@ ghost use Rattle.logs.specs.LogModel.{an_entry, entry_of, head_of};
 ghost use Rattle.logs.specs.RowModel.{row_entry};
 
 use super::FlatEntry;
-use crate::copies::overwrite;
 use crate::heads::{EntryHead, NewEntry};
+use few::Few;
 use words::changes::{Change, Write};
 
 const NO_WRITE: Write = Write {
@@ -22,8 +22,7 @@ impl FlatEntry {
         FlatEntry {
             home: 0,
             ticket: 0,
-            count: 0,
-            writes: [NO_WRITE; 16],
+            writes: Few::new(NO_WRITE),
         }
     }
 
@@ -31,13 +30,10 @@ impl FlatEntry {
         requires { length entry.writes.now ≤ 16 }
         ensures { row_entry result ≡ entry_of entry.entry }
     {
-        let mut writes = [NO_WRITE; 16];
-        overwrite(&mut writes, entry.writes);
         FlatEntry {
             home: entry.home,
             ticket: entry.ticket,
-            count: entry.writes.len(),
-            writes,
+            writes: Few::from_slice(NO_WRITE, entry.writes),
         }
     }
 
@@ -47,7 +43,7 @@ impl FlatEntry {
         EntryHead {
             home: self.home,
             ticket: self.ticket,
-            count: self.count as u32,
+            count: self.writes.len() as u32,
         }
     }
 
@@ -55,10 +51,6 @@ impl FlatEntry {
     pub(crate) fn write(&self, number: u32) -> Option<Write>
         ensures { result ≡ slice_get (row_entry self.now).writes number }
     {
-        if (number as usize) < self.count {
-            Some(self.writes[number as usize])
-        } else {
-            None
-        }
+        self.writes.get(number as usize)
     }
 }

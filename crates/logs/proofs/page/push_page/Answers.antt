@@ -1,32 +1,31 @@
-use Rattle.std.proofs.Common.{refl, ◌∙◌, arith}
+use Rattle.std.proofs.Common.{◌≡◌, ◌++◌, length, refl, sym, ap, ◌∙◌, arith}
 use Rattle.logs.specs.LogModel.{entry_of}
 use Rattle.logs.specs.RingModel.{ring_items}
-use Rattle.logs.specs.Loggable.{loggable_parts}
-use Rattle.logs.specs.PageLaws.{page_more}
+use Rattle.logs.specs.PageWords.{page_words}
+use Rattle.logs.specs.PageLaws.{length_page}
+use Rattle.logs.proofs.Spelt.{page_spelt, page_there}
 use Rattle.logs.proofs.page.push_page.Goals as goal
 
-pub push_writes-requires : goal.push_writes-requires
-push_writes-requires c =
-    record {
-      room = omega (
-        arith,
-        c.push.ensures.len,
-        c.push.ensures.size,
-        c.push-2.ensures.len,
-        c.push-2.ensures.size,
-        c.push-3.ensures.len,
-        c.push-3.ensures.size,
-        c.requires.room,
-      );
-      fit = (loggable_parts (entry_of c.args.entry) c.requires.loggable).3;
-    }
+pub unwrap-length-requires : goal.unwrap-length-requires
+unwrap-length-requires c =
+    let e = page_spelt c.args.version (entry_of c.args.entry) c.requires.version c.requires.loggable c.spell_entry.result c.spell_entry.ensures.answer in
+    rw e refl
+
+pub slice_bounds-extend-end : goal.slice_bounds-extend-end
+slice_bounds-extend-end c =
+    let e = page_spelt c.args.version (entry_of c.args.entry) c.requires.version c.requires.loggable c.spell_entry.result c.spell_entry.ensures.answer in
+    let p = page_there c.args.version (entry_of c.args.entry) c.requires.version c.requires.loggable _ _ (sym c.unwrap-length.ensures ∙ e) c.spell_entry.ensures.after in
+    let n : c.unwrap-length.result ≡ length (page_words c.args.version (entry_of c.args.entry)) = cc in
+    n ∙ sym (ap length p)
+
+pub extend-requires : goal.extend-requires
+extend-requires c =
+    let e = page_spelt c.args.version (entry_of c.args.entry) c.requires.version c.requires.loggable c.spell_entry.result c.spell_entry.ensures.answer in
+    let p = page_there c.args.version (entry_of c.args.entry) c.requires.version c.requires.loggable _ _ (sym c.unwrap-length.ensures ∙ e) c.spell_entry.ensures.after in
+    omega (arith, ap length p, length_page c.args.version (entry_of c.args.entry), c.requires.room)
 
 pub returns : goal.returns
 returns c =
-    let e = entry_of c.args.entry in
-    record {
-      items = c.push_writes.ensures.items
-          ∙ page_more (ring_items c.args.words.now) (ring_items c.push.new.self) (ring_items c.push-2.new.self) (ring_items c.push-3.new.self)
-          c.args.version e _ _ _ c.push.ensures.items c.push-2.ensures.items c.push-3.ensures.items (omega arith) refl refl;
-      size = c.push_writes.ensures.size ∙ c.push-3.ensures.size ∙ c.push-2.ensures.size ∙ c.push.ensures.size;
-    }
+    let e = page_spelt c.args.version (entry_of c.args.entry) c.requires.version c.requires.loggable c.spell_entry.result c.spell_entry.ensures.answer in
+    let p = page_there c.args.version (entry_of c.args.entry) c.requires.version c.requires.loggable _ _ (sym c.unwrap-length.ensures ∙ e) c.spell_entry.ensures.after in
+    record { items = c.extend.ensures.items ∙ ap (λ ws. ring_items c.args.words.now ++ ws) p; size = c.extend.ensures.size }

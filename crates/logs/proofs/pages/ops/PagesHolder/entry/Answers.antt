@@ -3,7 +3,6 @@ use Rattle.std.specs.Option.{option_map}
 use Rattle.logs.specs.LogModel.{head_of}
 use Rattle.logs.specs.RingModel.{ring_items}
 use Rattle.logs.specs.PageLaws.{page_inside, head_read}
-use Rattle.logs.specs.Rings.{ring_count}
 use Rattle.logs.proofs.pages.ops.PagesHolder.entry.Goals as goal
 
 pub at-head-requires : goal.at-head-requires
@@ -18,8 +17,7 @@ overflow_add-page c =
       arith,
       page_inside (ring_items c.args.self.now.words) c.in_ok-page.page c.args.version f.0 f.2 f.3,
       c.args.self.now.small,
-      ring_count c.args.self.now.words,
-      c.args.self.now.words.room,
+      c.args.self.now.words.within,
     )
 
 pub at-requires : goal.at-requires
@@ -33,6 +31,6 @@ returns c =
     let ws = ring_items c.args.self.now.words in
     let n = c.in_ok-page.page in
     let v = c.args.version in
-    ap Some (head_read ws n v f.0 f.2 f.3 c.home.result c.load.result c.count.result
-    c.at-head.result.now c.at.result.now c.at-head.ensures c.at.ensures c.home.ensures c.load.ensures c.count.ensures)
+    ap Some (head_read ws n v f.0 f.2 f.3 c.site.result c.load.result c.count.result
+    c.at-head.result.now c.at.result.now c.at-head.ensures c.at.ensures c.site.ensures c.load.ensures c.count.ensures)
     ∙ sym (ap (option_map head_of) f.1)

@@ -1,6 +1,5 @@
 use Rattle.std.proofs.Common.{◌-◌, min, refl, ap, ◌∙◌, arith}
 use Rattle.logs.specs.Laid.{pages_last, words_fewer, kept_high, kept_near, kept_laid, kept_begun, kept_sound, kept_held}
-use Rattle.logs.specs.Rings.{ring_count}
 use Rattle.logs.proofs.pages.ops.PagesHolder.trim.Goals as goal
 
 pub words_of-length-requires : goal.words_of-length-requires
@@ -24,8 +23,7 @@ overflow_add-self c =
       p.small,
       c.words_of-length.ensures,
       words_fewer p (c.min-bound.result - p.floor),
-      ring_count p.words,
-      p.words.room,
+      p.words.within,
     )
 
 pub invariant_of-self : goal.invariant_of-self

@@ -3,7 +3,6 @@ use Rattle.std.proofs.lemmas.Option.{slice_get_past}
 use Rattle.logs.specs.LogModel.{write_of}
 use Rattle.logs.specs.RingModel.{ring_items}
 use Rattle.logs.specs.PageLaws.{page_inside, count_read, write_read}
-use Rattle.logs.specs.Rings.{ring_count}
 use Rattle.logs.proofs.pages.ops.PagesHolder.write.Goals as goal
 
 pub at-requires : goal.at-requires
@@ -24,8 +23,7 @@ overflow_add-place c =
       arith,
       page_inside (ring_items c.args.self.now.words) c.in_ok-page.page c.args.version f.0 f.2 f.3,
       c.args.self.now.small,
-      ring_count c.args.self.now.words,
-      c.args.self.now.words.room,
+      c.args.self.now.words.within,
     )
 
 pub overflow_add-place-2 : goal.overflow_add-place-2
@@ -38,8 +36,7 @@ overflow_add-place-2 c =
       c.count.ensures,
       page_inside (ring_items c.args.self.now.words) c.in_ok-page.page c.args.version f.0 f.2 f.3,
       c.args.self.now.small,
-      ring_count c.args.self.now.words,
-      c.args.self.now.words.room,
+      c.args.self.now.words.within,
     )
 
 pub at-requires-2 : goal.at-requires-2
@@ -58,8 +55,7 @@ overflow_add-place-3 c =
       c.count.ensures,
       page_inside (ring_items c.args.self.now.words) c.in_ok-page.page c.args.version f.0 f.2 f.3,
       c.args.self.now.small,
-      ring_count c.args.self.now.words,
-      c.args.self.now.words.room,
+      c.args.self.now.words.within,
     )
 
 pub at-requires-3 : goal.at-requires-3
