@@ -1,5 +1,5 @@
 // A call that changes a log.
-use crate::random::Random;
+use crate::random::Numbers;
 use logs::api::{Declined, Log};
 use logs::heads::NewEntry;
 use words::changes::Write;
@@ -16,7 +16,7 @@ pub(crate) enum Call {
 }
 
 // A number that is mostly below the bound, and now and then above every limit.
-fn mostly_below(random: &mut Random, bound: u32) -> u32 {
+fn mostly_below(random: &mut Numbers, bound: u32) -> u32 {
     if random.is_time(40) {
         return 268_435_455 + random.below(3);
     }
@@ -24,7 +24,7 @@ fn mostly_below(random: &mut Random, bound: u32) -> u32 {
 }
 
 // A call on a log that holds entries from the floor to the last version.
-pub(crate) fn choose(random: &mut Random, floor: u32, last: u32) -> Call {
+pub(crate) fn choose(random: &mut Numbers, floor: u32, last: u32) -> Call {
     match random.below(16) {
         0 => Call::Pass,
         1 => Call::Note(random.below(5), mostly_below(random, 1000)),
@@ -42,10 +42,7 @@ pub(crate) fn choose(random: &mut Random, floor: u32, last: u32) -> Call {
 }
 
 pub(crate) fn is_append(call: Call) -> bool {
-    match call {
-        Call::Commit(_, _) | Call::Copy(_, _) => true,
-        _ => false,
-    }
+    matches!(call, Call::Commit(..) | Call::Copy(..))
 }
 
 // Makes the call; an entry may be declined.

@@ -1,6 +1,6 @@
 // Long lists of calls, at logs that fill, wrap and empty many times.
 use crate::calls::{Call, choose, is_append, play};
-use crate::random::{NO_WRITE, Random};
+use crate::random::{NO_WRITE, Numbers, draw_write};
 use crate::same::same;
 use logs::api::Log;
 use logs::flat::Flat;
@@ -29,18 +29,12 @@ struct Seen {
 
 fn flat_log(heap: Global, sites: u32, entries: usize) -> Result<Flat, Fail> {
     let memory = vec![in heap; FlatEntry::new(); entries]?;
-    match Flat::new(sites, memory) {
-        Ok(flat) => Ok(flat),
-        Err(_) => Err(Fail::new("the flat log was not made")),
-    }
+    Flat::new(sites, memory).map_err(|_| Fail::new("the flat log was not made"))
 }
 
 fn packed_log(heap: Global, sites: u32, words: usize) -> Result<Packed, Fail> {
     let memory = vec![in heap; 0u32; words]?;
-    match Packed::new(heap, sites, memory) {
-        Ok(packed) => Ok(packed),
-        Err(_) => Err(Fail::new("the packed log was not made")),
-    }
+    Packed::new(heap, sites, memory).map_err(|_| Fail::new("the packed log was not made"))
 }
 
 fn make(heap: Global, entries: usize, words: usize) -> Result<Both, Fail> {
@@ -50,9 +44,9 @@ fn make(heap: Global, entries: usize, words: usize) -> Result<Both, Fail> {
     })
 }
 
-fn refill(random: &mut Random, writes: &mut [Write; 17]) {
+fn refill(random: &mut Numbers, writes: &mut [Write; 17]) {
     for write in writes.iter_mut() {
-        *write = random.write();
+        *write = draw_write(random);
     }
 }
 
@@ -61,7 +55,7 @@ fn is_full(log: &Flat) -> bool {
 }
 
 // Makes one call at both logs, and compares every answer.
-fn turn(rt: &impl Abort, pair: &mut Both, random: &mut Random, call: Call, writes: &[Write]) {
+fn turn(rt: &impl Abort, pair: &mut Both, random: &mut Numbers, call: Call, writes: &[Write]) {
     let known = [
         random.below(900),
         random.below(900),
@@ -75,29 +69,10 @@ fn turn(rt: &impl Abort, pair: &mut Both, random: &mut Random, call: Call, write
     same(rt, &pair.flat, &pair.packed);
 }
 
-// Entries of one number of writes, so that both logs fill with the same entry.
-fn drive_equal(rt: &impl Abort, pair: &mut Both, seed: u32, count: usize) -> Seen {
-    let mut random = Random::new(seed);
-    let mut writes = [NO_WRITE; 17];
-    let mut seen = Seen { full: 0, empty: 0 };
-    assert!(rt; count <= 17);
-    for _ in 0..CALLS {
-        refill(&mut random, &mut writes);
-        let call = choose(&mut random, pair.flat.floor(), pair.flat.last());
-        if is_append(call) && is_full(&pair.flat) {
-            seen.full = seen.full.saturating_add(1);
-        }
-        turn(rt, pair, &mut random, call, &writes[0..count]);
-        if pair.flat.floor() == pair.flat.last() {
-            seen.empty = seen.empty.saturating_add(1);
-        }
-    }
-    seen
-}
-
-// Entries of any number of writes, which the packed log has room for wherever the flat one does.
-fn drive_varied(rt: &impl Abort, pair: &mut Both, seed: u32) -> Seen {
-    let mut random = Random::new(seed);
+// Entries of one number of writes, so that both logs fill with the same entry; or, where none is given, of any number,
+// which the packed log has room for wherever the flat one does.
+fn drive(rt: &impl Abort, pair: &mut Both, seed: u32, count: Option<usize>) -> Seen {
+    let mut random = Numbers::new(seed);
     let mut writes = [NO_WRITE; 17];
     let mut seen = Seen { full: 0, empty: 0 };
     for _ in 0..CALLS {
@@ -105,9 +80,12 @@ fn drive_varied(rt: &impl Abort, pair: &mut Both, seed: u32) -> Seen {
         let mut call = choose(&mut random, pair.flat.floor(), pair.flat.last());
         if is_append(call) && is_full(&pair.flat) {
             seen.full = seen.full.saturating_add(1);
-            call = Call::Trim(pair.flat.floor().saturating_add(1));
+            if count.is_none() {
+                call = Call::Trim(pair.flat.floor().saturating_add(1));
+            }
         }
-        let count = random.below(18) as usize;
+        let count = count.unwrap_or_else(|| random.below(18) as usize);
+        assert!(rt; count <= 17);
         turn(rt, pair, &mut random, call, &writes[0..count]);
         if pair.flat.floor() == pair.flat.last() {
             seen.empty = seen.empty.saturating_add(1);
@@ -119,15 +97,15 @@ fn drive_varied(rt: &impl Abort, pair: &mut Both, seed: u32) -> Seen {
 #[test]
 fn logs_agree_on_equal_entries(rt: HostRuntime) -> Result<(), Fail> {
     let mut two = make(rt.alloc(), 5, 5 * 7 + 6)?;
-    let seen = drive_equal(&rt, &mut two, 1, 2);
+    let seen = drive(&rt, &mut two, 1, Some(2));
     assert!(rt; seen.full > 50);
     assert!(rt; seen.empty > 50);
     let mut most = make(rt.alloc(), 3, 3 * 35 + 34)?;
-    let seen = drive_equal(&rt, &mut most, 2, 16);
+    let seen = drive(&rt, &mut most, 2, Some(16));
     assert!(rt; seen.full > 50);
     assert!(rt; seen.empty > 50);
     let mut none = make(rt.alloc(), 7, 7 * 3 + 2)?;
-    let seen = drive_equal(&rt, &mut none, 3, 0);
+    let seen = drive(&rt, &mut none, 3, Some(0));
     assert!(rt; seen.full > 50);
     assert!(rt; seen.empty > 50);
     Ok(())
@@ -136,7 +114,7 @@ fn logs_agree_on_equal_entries(rt: HostRuntime) -> Result<(), Fail> {
 #[test]
 fn logs_agree_on_varied_entries(rt: HostRuntime) -> Result<(), Fail> {
     let mut pair = make(rt.alloc(), 6, 6 * 35)?;
-    let seen = drive_varied(&rt, &mut pair, 4);
+    let seen = drive(&rt, &mut pair, 4, None);
     assert!(rt; seen.full > 50);
     assert!(rt; seen.empty > 50);
     Ok(())
@@ -145,7 +123,7 @@ fn logs_agree_on_varied_entries(rt: HostRuntime) -> Result<(), Fail> {
 #[test]
 fn too_many_writes_are_declined(rt: HostRuntime) -> Result<(), Fail> {
     let mut pair = make(rt.alloc(), 4, 4 * 37)?;
-    let seen = drive_equal(&rt, &mut pair, 5, 17);
+    let seen = drive(&rt, &mut pair, 5, Some(17));
     assert!(rt; seen.empty == CALLS);
     Ok(())
 }

@@ -7,7 +7,7 @@ use Rattle.std.proofs.ByRecursion.{All-weaker}
 use Rattle.std.proofs.lemmas.Bool.{cases_lt, cond_both}
 use Rattle.logs.specs.LogModel.{Entry, Held, held, an_entry, with_entries, last_held, last_version, can_append, appended, held_above, entry_held, entry_at, can_commit, can_copy, least}
 use Rattle.logs.specs.Laws.{Commit, Copy, Pass, Note, Close, Ticket, Trim, EntriesStay, EntriesFollow, TrimKeepsAbove, NumbersRise, LeastOfKnown}
-use Rattle.logs.specs.Holding.{entry_low, entry_high, entry_above}
+use Rattle.logs.proofs.Holding.{entry_low, entry_high, entry_above}
 
 -- what is held, one entry of it, and what stays of it
 module _ (h : Held) where

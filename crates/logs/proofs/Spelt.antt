@@ -7,8 +7,8 @@ use Rattle.words.specs.Encoded.{reply, wrote, put_answer, put_after}
 use Rattle.words.specs.Pages.{has_words, an_entry as entry_page}
 use Rattle.logs.specs.LogModel.{Entry, limit, loggable}
 use Rattle.logs.specs.PageWords.{page_words}
-use Rattle.logs.specs.Loggable.{loggable_parts}
-use Rattle.logs.specs.PageLaws.{length_page}
+use Rattle.logs.proofs.Loggable.{loggable_parts}
+use Rattle.logs.specs.HolderBounds.{length_page}
 
 wrote_ok : (r : Result ℕ Refusal) (n : ℕ) → reply r ≡ wrote n → r ≡ Ok n
 wrote_ok (Ok m) n e = let f : m ≡ n = cc in ap Ok f

@@ -9,9 +9,5 @@ pub mod PageWords
 pub mod PagesModel
 pub mod PackedModel
 pub mod Laws
+pub mod HolderBounds
 pub mod LogBounds
-pub mod Tables
-pub mod Holding
-pub mod Loggable
-pub mod Laid
-pub mod PageLaws

@@ -11,8 +11,7 @@ use Rattle.logs.specs.FlatModel.{flat_model}
 use Rattle.logs.specs.PackedModel.{packed_model}
 use Rattle.logs.specs.TableModel.{table_held}
 use Rattle.logs.specs.PagesModel.{pages_held}
-use Rattle.logs.specs.Tables.{table_bounds}
-use Rattle.logs.specs.Laid.{pages_bounds}
+use Rattle.logs.specs.HolderBounds.{table_bounds, pages_bounds}
 
 pub kept_bounded : {H : Type 0} {entry_cost write_cost : ℕ} (held_of : H → Held) → ((h : H) → HeldBounds entry_cost write_cost (held_of h)) →
     (l : Kept H) → Bounded (kept_model held_of l)

@@ -10,7 +10,7 @@ use words::encode::EntryParts;
 use words::spell::spell_entry;
 
 // The most words of a page.
-const MOST_WORDS: usize = 35;
+const PAGE_WORDS: usize = 35;
 
 // Adds the page of an entry at the end.
 pub(crate) fn push_page(words: &mut Ring<u32>, version: u32, entry: NewEntry<'_>)
@@ -20,7 +20,7 @@ pub(crate) fn push_page(words: &mut Ring<u32>, version: u32, entry: NewEntry<'_>
     ensures items { ring_items words.new ≡ ring_items words.old ++ page_words version (entry_of entry.entry) }
     ensures size { ring_size words.new ≡ ring_size words.old }
 {
-    let mut page = [0; MOST_WORDS];
+    let mut page = [0; PAGE_WORDS];
     let parts = EntryParts {
         site: entry.home,
         version,

@@ -3,7 +3,7 @@ ghost use Rattle.std.specs.Prelude.{◌≡◌, ◌≤◌, min, length, take, vec
 ghost use Rattle.logs.specs.LogModel.{nothing_held, total_cost};
 ghost use Rattle.logs.specs.RingModel.{ring_items};
 ghost use Rattle.logs.specs.PagesModel.{pages_held, Located, MadePages};
-ghost use Rattle.logs.specs.Laid.{pages_bounds};
+ghost use Rattle.logs.specs.HolderBounds.{pages_bounds};
 
 use super::Pages;
 use crate::heads::{EntryHead, NewEntry};
@@ -23,15 +23,15 @@ impl Pages {
         ensures { MadePages (nothing_held (min (vec_len memory) 8192) 3 2) memory result }
     {
         let most = memory.len().min(MOST_WORDS) / 3;
-        match vec![in heap; 0u64; most] {
-            Ok(index) => Ok(Pages {
-                floor: 0,
-                words: Ring::new(memory, MOST_WORDS),
-                starts: Ring::new(index, most),
-                removed: 0,
-            }),
-            Err(_) => Err(memory),
-        }
+        let Ok(index) = vec![in heap; 0u64; most] else {
+            return Err(memory);
+        };
+        Ok(Pages {
+            floor: 0,
+            words: Ring::new(memory, MOST_WORDS),
+            starts: Ring::new(index, most),
+            removed: 0,
+        })
     }
 
     // Where the page of a version begins among the words.

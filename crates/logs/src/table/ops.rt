@@ -4,7 +4,7 @@ ghost use Rattle.std.specs.Option.{option_map};
 ghost use Rattle.logs.specs.LogModel.{nothing_held, entry_held};
 ghost use Rattle.logs.specs.RowModel.{row_entry};
 ghost use Rattle.logs.specs.TableModel.{table_held};
-ghost use Rattle.logs.specs.Tables.{table_bounds};
+ghost use Rattle.logs.specs.HolderBounds.{table_bounds};
 
 use super::Table;
 use crate::heads::{EntryHead, NewEntry};

@@ -2,7 +2,7 @@ use Rattle.std.proofs.Common.{◌≡◌, ◌++◌, length, refl, sym, ap, ◌∙
 use Rattle.logs.specs.LogModel.{entry_of}
 use Rattle.logs.specs.RingModel.{ring_items}
 use Rattle.logs.specs.PageWords.{page_words}
-use Rattle.logs.specs.PageLaws.{length_page}
+use Rattle.logs.specs.HolderBounds.{length_page}
 use Rattle.logs.proofs.Spelt.{page_spelt, page_there}
 use Rattle.logs.proofs.page.push_page.Goals as goal
 

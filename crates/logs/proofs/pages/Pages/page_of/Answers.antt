@@ -1,7 +1,8 @@
 use Rattle.std.proofs.Common.{arith}
 use Rattle.logs.specs.PagesModel.{pages_held}
-use Rattle.logs.specs.Holding.{entry_low, entry_high}
-use Rattle.logs.specs.Laid.{pages_last, words_before, located}
+use Rattle.logs.proofs.Holding.{entry_low, entry_high}
+use Rattle.logs.specs.HolderBounds.{pages_last}
+use Rattle.logs.proofs.Laid.{words_before, located}
 use Rattle.logs.proofs.pages.Pages.page_of.Goals as goal
 use Rattle.logs.proofs.pages.Pages.page_of.Goals.{then-version-self-via-then-version-self, then-version-self-via-else-version-self+then-version-last}
 

@@ -1,5 +1,5 @@
 use Rattle.std.proofs.Common.{◌∙◌, arith}
-use Rattle.logs.specs.Laid.{words_before, words_all}
+use Rattle.logs.proofs.Laid.{words_before, words_all}
 use Rattle.logs.proofs.pages.Pages.words_of.Goals as goal
 
 pub overflow_sub-result : goal.overflow_sub-result

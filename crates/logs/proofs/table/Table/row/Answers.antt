@@ -1,7 +1,8 @@
 use Rattle.std.proofs.Common.{sym, arith}
 use Rattle.logs.specs.TableModel.{table_held}
-use Rattle.logs.specs.Holding.{entry_low, entry_high}
-use Rattle.logs.specs.Tables.{table_last, table_row}
+use Rattle.logs.proofs.Holding.{entry_low, entry_high}
+use Rattle.logs.specs.HolderBounds.{table_last}
+use Rattle.logs.proofs.Tables.{table_row}
 use Rattle.logs.proofs.table.Table.row.Goals as goal
 use Rattle.logs.proofs.table.Table.row.Goals.{then-version-self-via-then-version-self, then-version-self-via-else-version-self+then-version-last}
 

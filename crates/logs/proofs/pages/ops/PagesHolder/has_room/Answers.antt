@@ -1,5 +1,5 @@
 use Rattle.std.proofs.Common.{◌+◌, ◌*◌, leb, ap, ◌∙◌}
-use Rattle.logs.specs.Laid.{pages_fits}
+use Rattle.logs.proofs.Laid.{pages_fits}
 use Rattle.logs.proofs.pages.ops.PagesHolder.has_room.Goals as goal
 
 pub returns : goal.returns

@@ -1,5 +1,5 @@
 use Rattle.std.proofs.Common.{◌+◌, sym, ap, ◌∙◌}
-use Rattle.logs.specs.Laid.{pages_last}
+use Rattle.logs.specs.HolderBounds.{pages_last}
 use Rattle.logs.proofs.pages.ops.PagesHolder.last.Goals as goal
 
 pub returns : goal.returns

@@ -1,6 +1,6 @@
 use Rattle.std.proofs.Common.{◌+◌, ap, arith}
 use Rattle.logs.specs.LogModel.{entry_of}
-use Rattle.logs.specs.Laid.{room_left, starts_left, version_left, is_loggable, grown_high, grown_laid, grown_begun, grown_sound, grown_held}
+use Rattle.logs.proofs.Laid.{room_left, starts_left, version_left, is_loggable, grown_high, grown_laid, grown_begun, grown_sound, grown_held}
 use Rattle.logs.proofs.pages.ops.PagesHolder.push.Goals as goal
 
 pub push-requires : goal.push-requires

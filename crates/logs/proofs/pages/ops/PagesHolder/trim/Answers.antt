@@ -1,5 +1,6 @@
 use Rattle.std.proofs.Common.{◌-◌, min, refl, ap, ◌∙◌, arith}
-use Rattle.logs.specs.Laid.{pages_last, words_fewer, kept_high, kept_near, kept_laid, kept_begun, kept_sound, kept_held}
+use Rattle.logs.specs.HolderBounds.{pages_last}
+use Rattle.logs.proofs.Laid.{words_fewer, kept_high, kept_near, kept_laid, kept_begun, kept_sound, kept_held}
 use Rattle.logs.proofs.pages.ops.PagesHolder.trim.Goals as goal
 
 pub words_of-length-requires : goal.words_of-length-requires

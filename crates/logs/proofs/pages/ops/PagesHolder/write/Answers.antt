@@ -2,74 +2,58 @@ use Rattle.std.proofs.Common.{sym, ap, ◌∙◌, arith}
 use Rattle.std.proofs.lemmas.Option.{slice_get_past}
 use Rattle.logs.specs.LogModel.{write_of}
 use Rattle.logs.specs.RingModel.{ring_items}
-use Rattle.logs.specs.PageLaws.{page_inside, count_read, write_read}
+use Rattle.logs.proofs.PageLaws.{write_read}
+use Rattle.logs.proofs.Laid.{read_inside, read_few, read_count}
 use Rattle.logs.proofs.pages.ops.PagesHolder.write.Goals as goal
 
 pub at-requires : goal.at-requires
-at-requires c =
-    let f = c.in_ok-page.ensures in
-    omega (arith, page_inside (ring_items c.args.self.now.words) c.in_ok-page.page c.args.version f.0 f.2 f.3)
+at-requires c = omega (arith, read_inside c.args.self.now c.args.version c.in_ok-page.page c.in_ok-page.ensures)
 
 pub returns-then-number-count : goal.returns-then-number-count
 returns-then-number-count c =
     let f = c.in_ok-page.ensures in
-    let n = count_read (ring_items c.args.self.now.words) c.in_ok-page.page c.args.version f.0 f.2 f.3 c.at.result.now c.at.ensures in
+    let n = read_count c.args.self.now c.args.version c.in_ok-page.page f c.at.result.now c.at.ensures in
     sym (ap (λ o. write_of o c.args.number) f.1 ∙ slice_get_past f.0.writes c.args.number (omega (arith, n, c.count.ensures)))
 
 pub overflow_add-place : goal.overflow_add-place
 overflow_add-place c =
-    let f = c.in_ok-page.ensures in
-    omega (
-      arith,
-      page_inside (ring_items c.args.self.now.words) c.in_ok-page.page c.args.version f.0 f.2 f.3,
-      c.args.self.now.small,
-      c.args.self.now.words.within,
-    )
+    let p = c.args.self.now in
+    omega (arith, read_inside p c.args.version c.in_ok-page.page c.in_ok-page.ensures, read_few p)
 
 pub overflow_add-place-2 : goal.overflow_add-place-2
 overflow_add-place-2 c =
+    let p = c.args.self.now in
     let f = c.in_ok-page.ensures in
-    let n = count_read (ring_items c.args.self.now.words) c.in_ok-page.page c.args.version f.0 f.2 f.3 c.at.result.now c.at.ensures in
-    omega (
-      arith,
-      n,
-      c.count.ensures,
-      page_inside (ring_items c.args.self.now.words) c.in_ok-page.page c.args.version f.0 f.2 f.3,
-      c.args.self.now.small,
-      c.args.self.now.words.within,
-    )
+    let n = read_count p c.args.version c.in_ok-page.page f c.at.result.now c.at.ensures in
+    omega (arith, n, c.count.ensures, read_inside p c.args.version c.in_ok-page.page f, read_few p)
 
 pub at-requires-2 : goal.at-requires-2
 at-requires-2 c =
+    let p = c.args.self.now in
     let f = c.in_ok-page.ensures in
-    let n = count_read (ring_items c.args.self.now.words) c.in_ok-page.page c.args.version f.0 f.2 f.3 c.at.result.now c.at.ensures in
-    omega (arith, n, c.count.ensures, page_inside (ring_items c.args.self.now.words) c.in_ok-page.page c.args.version f.0 f.2 f.3)
+    let n = read_count p c.args.version c.in_ok-page.page f c.at.result.now c.at.ensures in
+    omega (arith, n, c.count.ensures, read_inside p c.args.version c.in_ok-page.page f)
 
 pub overflow_add-place-3 : goal.overflow_add-place-3
 overflow_add-place-3 c =
+    let p = c.args.self.now in
     let f = c.in_ok-page.ensures in
-    let n = count_read (ring_items c.args.self.now.words) c.in_ok-page.page c.args.version f.0 f.2 f.3 c.at.result.now c.at.ensures in
-    omega (
-      arith,
-      n,
-      c.count.ensures,
-      page_inside (ring_items c.args.self.now.words) c.in_ok-page.page c.args.version f.0 f.2 f.3,
-      c.args.self.now.small,
-      c.args.self.now.words.within,
-    )
+    let n = read_count p c.args.version c.in_ok-page.page f c.at.result.now c.at.ensures in
+    omega (arith, n, c.count.ensures, read_inside p c.args.version c.in_ok-page.page f, read_few p)
 
 pub at-requires-3 : goal.at-requires-3
 at-requires-3 c =
+    let p = c.args.self.now in
     let f = c.in_ok-page.ensures in
-    let n = count_read (ring_items c.args.self.now.words) c.in_ok-page.page c.args.version f.0 f.2 f.3 c.at.result.now c.at.ensures in
-    omega (arith, n, c.count.ensures, page_inside (ring_items c.args.self.now.words) c.in_ok-page.page c.args.version f.0 f.2 f.3)
+    let n = read_count p c.args.version c.in_ok-page.page f c.at.result.now c.at.ensures in
+    omega (arith, n, c.count.ensures, read_inside p c.args.version c.in_ok-page.page f)
 
 pub returns : goal.returns
 returns c =
+    let p = c.args.self.now in
     let f = c.in_ok-page.ensures in
-    let ws = ring_items c.args.self.now.words in
-    let n = count_read ws c.in_ok-page.page c.args.version f.0 f.2 f.3 c.at.result.now c.at.ensures in
+    let n = read_count p c.args.version c.in_ok-page.page f c.at.result.now c.at.ensures in
     c.read_write-write.ensures.write
-    ∙ write_read ws c.in_ok-page.page c.args.version f.0 f.2 f.3 c.args.number c.at-2.result.now c.at-3.result.now
+    ∙ write_read (ring_items p.words) c.in_ok-page.page c.args.version f.0 f.2 f.3 c.args.number c.at-2.result.now c.at-3.result.now
     (omega (arith, n, c.count.ensures)) c.at-2.ensures c.at-3.ensures
     ∙ sym (ap (λ o. write_of o c.args.number) f.1)

@@ -1,6 +1,6 @@
 use Rattle.std.proofs.Common.{◌≡◌, ltb, length, ◌∙◌}
 use Rattle.logs.specs.RingModel.{ring_items, ring_size}
-use Rattle.logs.specs.Tables.{table_fits}
+use Rattle.logs.proofs.Tables.{table_fits}
 use Rattle.logs.proofs.table.ops.TableHolder.has_room.Goals as goal
 
 pub returns : goal.returns

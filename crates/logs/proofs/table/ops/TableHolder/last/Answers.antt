@@ -1,5 +1,5 @@
 use Rattle.std.proofs.Common.{◌+◌, sym, ap, ◌∙◌}
-use Rattle.logs.specs.Tables.{table_last}
+use Rattle.logs.specs.HolderBounds.{table_last}
 use Rattle.logs.proofs.table.ops.TableHolder.last.Goals as goal
 
 pub returns : goal.returns

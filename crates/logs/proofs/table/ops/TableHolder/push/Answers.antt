@@ -1,9 +1,9 @@
 use Rattle.std.proofs.Common.{arith}
 use Rattle.logs.specs.LogModel.{entry_of}
 use Rattle.logs.specs.TableModel.{table_held}
-use Rattle.logs.specs.Holding.{append_parts}
-use Rattle.logs.specs.Loggable.{loggable_parts}
-use Rattle.logs.specs.Tables.{table_open, pushed_high, pushed_sound, pushed_held}
+use Rattle.logs.proofs.Holding.{append_parts}
+use Rattle.logs.proofs.Loggable.{loggable_parts}
+use Rattle.logs.proofs.Tables.{table_open, pushed_high, pushed_sound, pushed_held}
 use Rattle.logs.proofs.table.ops.TableHolder.push.Goals as goal
 
 pub of-requires : goal.of-requires

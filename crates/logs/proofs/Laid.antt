@@ -4,19 +4,17 @@ use Rattle.std.proofs.Math.Path.{sym, ap}
 use Rattle.std.proofs.Common.{◌∙◌, arith}
 use Rattle.std.proofs.lemmas.List.{length_push, length-drop, length-take-le, take_all, get_or_default}
 use Rattle.std.proofs.lemmas.Bool.{leb-true}
+use Rattle.words.specs.Bits.{count_of}
 use Rattle.logs.specs.declared.ring.Ring.{Ring}
 use Rattle.logs.specs.declared.pages.Pages.{Pages}
 use Rattle.logs.specs.LogModel.{Entry, HeldBounds, limit, an_entry, a_holding, cost, total_cost, last_held, loggable, all_loggable, fits, can_append, appended, held_above}
 use Rattle.logs.specs.RingModel.{ring_items, ring_size}
 use Rattle.logs.specs.PageWords.{page_words, pages_words, begins, entries_in}
 use Rattle.logs.specs.PagesModel.{pages_entries, pages_held, Located}
-use Rattle.logs.specs.Holding.{entry_some, append_parts, append_taken, above_more}
-use Rattle.logs.specs.Loggable.{loggable_push, loggable_drop, loggable_take, loggable_at}
-use Rattle.logs.specs.PageLaws.{length_pages, pages_back, pages_push, pages_drop, length_begins, begins_push, begins_drop, begins_at, page_at, cost_bound, cost_least, cost_front}
-
-pub length_entries : (n : ℕ) (ws : List ℕ) → length (entries_in n ws) ≡ n
-length_entries zero ws = refl
-length_entries (suc n) ws = ap suc (length_entries n _)
+use Rattle.logs.proofs.Holding.{entry_some, append_parts, append_taken, above_more}
+use Rattle.logs.proofs.Loggable.{loggable_push, loggable_drop, loggable_take, loggable_at}
+use Rattle.logs.specs.HolderBounds.{pages_long, pages_last, pages_cost}
+use Rattle.logs.proofs.PageLaws.{page_inside, count_read, pages_back, pages_push, pages_drop, length_begins, begins_push, begins_drop, begins_at, page_at, cost_bound, cost_least, cost_front}
 
 -- words and starts that are laid out as the entries say
 module _ (floor removed : ℕ) (ws ss : List ℕ) (es : List Entry) (w : ws ≡ pages_words (floor + 1) es) (s : ss ≡ begins removed es)
@@ -37,26 +35,16 @@ module _ (floor removed : ℕ) (ws ss : List ℕ) (es : List Entry) (w : ws ≡ 
   sound_again = ap all_loggable reads_back ∙ l
 
 module _ (p : Pages) where
-  pub pages_long : length (pages_entries p) ≡ length (ring_items p.starts)
-  pages_long = length_entries (length (ring_items p.starts)) (ring_items p.words)
-
-  pub pages_last : last_held (pages_held p) ≡ p.floor + length (ring_items p.starts)
-  pages_last = ap (λ n. p.floor + n) pages_long
-
-  -- the entries cost as many words as there are
-  pub pages_cost : total_cost 3 2 (pages_entries p) ≡ length (ring_items p.words)
-  pages_cost = sym (ap length p.laid ∙ length_pages (p.floor + 1) (pages_entries p))
-
   pub pages_fits : (n used : ℕ) → used ≡ length (ring_items p.words) → nat_le (used + 3 + 2 * n) (ring_size p.words) ≡ fits (pages_held p) n
   pages_fits n used e =
-      let sum : used + 3 + 2 * n ≡ total_cost 3 2 (pages_entries p) + cost 3 2 n = omega (arith, pages_cost) in
+      let sum : used + 3 + 2 * n ≡ total_cost 3 2 (pages_entries p) + cost 3 2 n = omega (arith, pages_cost p) in
       ap (λ m. leb m (ring_size p.words)) sum
 
   -- the start of the page at place i
   pub start_at : (i : ℕ) (d : ℕ) → i < length (ring_items p.starts) →
       slice_index_or (ring_items p.starts) i d ≡ p.removed + total_cost 3 2 (take i (pages_entries p))
   start_at i d h =
-      ap (λ xs. get_or xs i d) p.begun ∙ begins_at p.removed i (pages_entries p) d (omega (arith, pages_long))
+      ap (λ xs. get_or xs i d) p.begun ∙ begins_at p.removed i (pages_entries p) d (omega (arith, pages_long p))
 
   -- how many words the first n pages have, from where the next one begins
   pub words_before : (n start : ℕ) → n < length (ring_items p.starts) → start ≡ slice_index_or (ring_items p.starts) n start →
@@ -64,17 +52,17 @@ module _ (p : Pages) where
   words_before n start h q = q ∙ start_at n start h
 
   pub words_all : (n : ℕ) → length (ring_items p.starts) ≤ n → length (ring_items p.words) ≡ total_cost 3 2 (take n (pages_entries p))
-  words_all n h = sym pages_cost ∙ ap (total_cost 3 2) (sym (take_all n (pages_entries p) (omega (arith, pages_long))))
+  words_all n h = sym (pages_cost p) ∙ ap (total_cost 3 2) (sym (take_all n (pages_entries p) (omega (arith, pages_long p))))
 
   pub words_fewer : (n : ℕ) → total_cost 3 2 (take n (pages_entries p)) ≤ length (ring_items p.words)
-  words_fewer n = omega (arith, pages_cost, cost_front n (pages_entries p))
+  words_fewer n = omega (arith, pages_cost p, cost_front n (pages_entries p))
 
   pub words_few : (n : ℕ) → n ≤ length (ring_items p.starts) → total_cost 3 2 (take n (pages_entries p)) ≤ 35 * n
   words_few n h =
       omega (
         arith,
         cost_bound (take n (pages_entries p)) (loggable_take n (pages_entries p) p.sound),
-        length-take-le n (pages_entries p) (omega (arith, pages_long)),
+        length-take-le n (pages_entries p) (omega (arith, pages_long p)),
       )
 
   -- the page of a version
@@ -82,7 +70,7 @@ module _ (p : Pages) where
       Located p v (Some (start - p.removed))
   located v i start q h r =
       let es = pages_entries p in
-      let inside : i < length es = omega (arith, pages_long) in
+      let inside : i < length es = omega (arith, pages_long p) in
       let e = get_or es i (an_entry 0 0 []) in
       let same : e ≡ get_or es i e = get_or_default es i (an_entry 0 0 []) e inside in
       let place : start - p.removed ≡ total_cost 3 2 (take i es) = omega (arith, words_before i start h r) in (
@@ -200,15 +188,13 @@ module _ (p : Pages) (v b n gone : ℕ) (bound : b ≡ min v (last_held (pages_h
       ∙ ap (λ m. a_holding b (drop m (pages_entries p)) (ring_size p.words) 3 2) count
       ∙ above_more (pages_held p) v b bound above
 
--- what holds of pages' entries
-pub pages_bounds : (p : Pages) → HeldBounds 3 2 (pages_held p)
-pages_bounds p = record {
-  entry_cost_held = refl;
-  write_cost_held = refl;
-  entry_cost_bound = omega arith;
-  write_cost_bound = omega arith;
-  last_bound = omega (arith, pages_last p, p.high);
-  capacity_bound = omega (arith, p.small);
-  affordable = omega (arith, pages_cost p, p.words.within);
-  readable = p.sound;
-}
+-- what is read of the page of a version, which begins at place n among the words
+module _ (p : Pages) (v n : ℕ) (f : Located p v (Some n)) where
+  pub read_inside : n + (3 + 2 * length f.0.writes) ≤ length (ring_items p.words)
+  read_inside = page_inside (ring_items p.words) n v f.0 f.2 f.3
+
+  pub read_few : length (ring_items p.words) ≤ 8192
+  read_few = omega (arith, p.words.within, p.small)
+
+  pub read_count : (x : ℕ) → x ≡ slice_index_or (ring_items p.words) n x → count_of x ≡ length f.0.writes
+  read_count = count_read (ring_items p.words) n v f.0 f.2 f.3

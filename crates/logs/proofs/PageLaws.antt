@@ -14,7 +14,8 @@ use Rattle.words.specs.Writes.{a_write, change_of, write_of, and_then, leading, 
 use Rattle.logs.specs.declared.heads.EntryHead.{EntryHead}
 use Rattle.logs.specs.LogModel.{Entry, limit, an_entry, head_of, cost, total_cost, loggable, all_loggable}
 use Rattle.logs.specs.PageWords.{page_words, pages_words, begins, page_length, entry_in, entries_in}
-use Rattle.logs.specs.Loggable.{loggable_parts, write_parts, fits_at}
+use Rattle.logs.specs.HolderBounds.{length_page}
+use Rattle.logs.proofs.Loggable.{loggable_parts, write_parts, fits_at}
 
 -- What is read past the end of a list of writes.
 abbrev pub no_write : Write
@@ -69,20 +70,6 @@ leading_back [] f = refl
 leading_back (w ∷ ws) f =
     let p = and_parts (write_fits 0 w) (all_fit ws) f in
     ap (λ o. and_then o (leading (writes_words ws))) (write_back w p.0) ∙ ap (λ l. w ∷ l) (leading_back ws p.1)
-
--- How many words there are
-
-length_writes : (ws : List Write) → length (writes_words ws) ≡ 2 * length ws
-length_writes [] = refl
-length_writes (w ∷ ws) = let e = length_writes ws in omega arith
-
-pub length_page : (v : ℕ) (e : Entry) → length (page_words v e) ≡ cost 3 2 (length e.writes)
-length_page v e = omega (arith, length_writes e.writes)
-
-pub length_pages : (v : ℕ) (es : List Entry) → length (pages_words v es) ≡ total_cost 3 2 es
-length_pages v [] = refl
-length_pages v (e ∷ es) =
-    length-append (page_words v e) (pages_words (suc v) es) ∙ omega (arith, length_page v e, length_pages (suc v) es)
 
 -- Pages read back
 
@@ -246,32 +233,3 @@ module _ (ws : List ℕ) (n v : ℕ) (e : Entry) (l : loggable e ≡ true) (ther
       ∙ ap (write_of (word 5 w.item)) change
       ∙ write_back w (fits_at k e.writes no_write h (loggable_parts e l).3)
       ∙ sym (slice_get-get_or e.writes k no_write h)
-
--- The words of writes that are added one write after another
-module _ (i : ℕ) (ws : List Write) (h : i < length ws) where
-  pub words_more : (done : List ℕ) →
-      ((done ++ (word 5 (get_or ws i no_write).item ∷ [])) ++ (change_word (get_or ws i no_write).change ∷ [])) ++ writes_words (drop (i + 1) ws)
-      ≡ done ++ writes_words (drop i ws)
-  words_more done =
-      let w = get_or ws i no_write in
-      append_assoc (done ++ (word 5 w.item ∷ [])) (change_word w.change ∷ []) (writes_words (drop (i + 1) ws))
-      ∙ append_assoc done (word 5 w.item ∷ []) (change_word w.change ∷ writes_words (drop (i + 1) ws))
-      ∙ ap (λ xs. done ++ writes_words xs) (sym (drop_more ws i no_write h))
-
-  pub fit_first : all_fit (drop i ws) ≡ true → (write_fits 0 (slice_index_or ws i no_write) ≡ true) × (all_fit (drop (i + 1) ws) ≡ true)
-  fit_first f = and_parts (write_fits 0 (slice_index_or ws i no_write)) (all_fit (drop (i + 1) ws)) (sym (at_drop_more all_fit ws i no_write h) ∙ f)
-
-pub words_all : (done : List ℕ) (i : ℕ) (ws : List Write) → length ws ≤ i → done ++ writes_words (drop i ws) ≡ done
-words_all done i ws h = ap (λ xs. done ++ writes_words xs) (drop_all i ws h) ∙ append-nil done
-
--- The words of a page that are added one after another
-pub page_more : (done one two three : List ℕ) (v : ℕ) (e : Entry) (h t u : ℕ) → one ≡ done ++ (h ∷ []) → two ≡ one ++ (t ∷ []) → three ≡ two ++ (u ∷ []) →
-    h ≡ head 8 e.home (length e.writes) → t ≡ word 4 v → u ≡ word 3 e.ticket → three ++ writes_words e.writes ≡ done ++ page_words v e
-page_more done one two three v e h t u a b c p q r =
-    let ws = writes_words e.writes in
-    ap (λ xs. xs ++ ws) c ∙ append_assoc two (u ∷ []) ws
-    ∙ ap (λ xs. xs ++ (u ∷ ws)) b ∙ append_assoc one (t ∷ []) (u ∷ ws)
-    ∙ ap (λ xs. xs ++ (t ∷ (u ∷ ws))) a ∙ append_assoc done (h ∷ []) (t ∷ (u ∷ ws))
-    ∙ ap (λ x. done ++ (x ∷ (t ∷ (u ∷ ws)))) p
-    ∙ ap (λ x. done ++ (head 8 e.home (length e.writes) ∷ (x ∷ (u ∷ ws)))) q
-    ∙ ap (λ x. done ++ (head 8 e.home (length e.writes) ∷ (word 4 v ∷ (x ∷ ws)))) r

@@ -33,21 +33,10 @@ module _ (h : Held) where
   pub append_taken : (e : Entry) → can_append h e ≡ true → appended h e ≡ with_entries h h.floor (h.entries ++ (e ∷ []))
   append_taken e t = ap (λ b. cond b (with_entries h h.floor (h.entries ++ (e ∷ []))) h) t
 
-  pub append_declined : (e : Entry) → can_append h e ≡ false → appended h e ≡ h
-  append_declined e t = ap (λ b. cond b (with_entries h h.floor (h.entries ++ (e ∷ []))) h) t
-
   -- without the entries up to b, the smaller of v and the last version
-  module _ (v b : ℕ) (e : b ≡ min v (last_held h)) where
-    pub above_more : h.floor < b → with_entries h b (drop (b - h.floor) h.entries) ≡ held_above h v
-    above_more l =
-        let m : max h.floor b ≡ b = omega arith in
-        ap (λ z. with_entries h z (drop (b - h.floor) h.entries)) (sym m)
-        ∙ ap (λ z. with_entries h (max h.floor z) (drop (z - h.floor) h.entries)) e
-
-    pub above_same : b ≤ h.floor → h ≡ held_above h v
-    above_same l =
-        let m : h.floor ≡ max h.floor b = omega arith in
-        let n : 0 ≡ b - h.floor = omega arith in
-        ap (λ z. with_entries h z h.entries) m
-        ∙ ap (λ z. with_entries h (max h.floor b) (drop z h.entries)) n
-        ∙ ap (λ z. with_entries h (max h.floor z) (drop (z - h.floor) h.entries)) e
+  pub above_more : (v b : ℕ) → b ≡ min v (last_held h) → h.floor < b →
+      with_entries h b (drop (b - h.floor) h.entries) ≡ held_above h v
+  above_more v b e l =
+      let m : max h.floor b ≡ b = omega arith in
+      ap (λ z. with_entries h z (drop (b - h.floor) h.entries)) (sym m)
+      ∙ ap (λ z. with_entries h (max h.floor z) (drop (z - h.floor) h.entries)) e

@@ -11,25 +11,15 @@ use Rattle.logs.specs.LogModel.{Entry, HeldBounds, limit, a_holding, total_cost,
 use Rattle.logs.specs.RingModel.{ring_items, ring_size}
 use Rattle.logs.specs.RowModel.{row_entry}
 use Rattle.logs.specs.TableModel.{table_held}
-use Rattle.logs.specs.Holding.{entry_some, append_parts, append_taken, above_more}
-use Rattle.logs.specs.Loggable.{loggable_push, loggable_drop}
-
--- at a cost of 1 for each entry and none for a write
-pub flat_cost : (es : List Entry) → total_cost 1 0 es ≡ length es
-flat_cost [] = refl
-flat_cost (e ∷ es) = let t = flat_cost es in omega arith
+use Rattle.logs.specs.HolderBounds.{flat_cost, table_long, table_last}
+use Rattle.logs.proofs.Holding.{entry_some, append_parts, append_taken, above_more}
+use Rattle.logs.proofs.Loggable.{loggable_push, loggable_drop}
 
 module _ (t : Table) where
-  pub table_long : length (table_held t).entries ≡ length (ring_items t.rows)
-  table_long = length-map (ring_items t.rows) row_entry
-
-  pub table_last : last_held (table_held t) ≡ t.floor + length (ring_items t.rows)
-  table_last = ap (λ n. t.floor + n) table_long
-
   pub table_fits : (n : ℕ) → nat_lt (length (ring_items t.rows)) (ring_size t.rows) ≡ fits (table_held t) n
   table_fits n =
       let c = flat_cost (table_held t).entries in
-      let l = table_long in
+      let l = table_long t in
       grind (arith, nat_tests)
 
   pub table_open : (e : Entry) → can_append (table_held t) e ≡ true → length (ring_items t.rows) < ring_size t.rows
@@ -38,7 +28,7 @@ module _ (t : Table) where
   pub table_row : (v i : ℕ) (x : FlatEntry) → v ≡ t.floor + 1 + i → i < length (ring_items t.rows) → x ≡ slice_index_or (ring_items t.rows) i x →
       entry_held (table_held t) v ≡ Some (row_entry x)
   table_row v i x p l q =
-      entry_some (table_held t) v i (row_entry x) p (omega (arith, table_long))
+      entry_some (table_held t) v i (row_entry x) p (omega (arith, table_long t))
       (ap row_entry q ∙ sym (get_or-map row_entry (ring_items t.rows) i x (row_entry x) l))
 
 -- one more row, which holds the entry
@@ -79,19 +69,3 @@ module _ (t : Table) (v b : ℕ) (bound : b ≡ min v (last_held (table_held t))
       ap (λ es. a_holding b es (ring_size rows) 1 0) left_entries
       ∙ ap (λ n. a_holding b (drop (b - t.floor) (table_held t).entries) n 1 0) size
       ∙ above_more (table_held t) v b bound above
-
--- what holds of a table's entries
-table_affordable : (t : Table) → total_cost 1 0 (table_held t).entries ≤ ring_size t.rows
-table_affordable t = omega (arith, flat_cost (table_held t).entries, table_long t, t.rows.within)
-
-pub table_bounds : (t : Table) → HeldBounds 1 0 (table_held t)
-table_bounds t = record {
-  entry_cost_held = refl;
-  write_cost_held = refl;
-  entry_cost_bound = omega arith;
-  write_cost_bound = omega arith;
-  last_bound = omega (arith, table_last t, t.high);
-  capacity_bound = omega (arith, t.small);
-  affordable = table_affordable t;
-  readable = t.sound;
-}
