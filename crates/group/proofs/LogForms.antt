@@ -6,7 +6,7 @@ use Rattle.words.specs.Bits.{every}
 use Rattle.words.specs.Pages.{a_closing, page_of}
 use Rattle.words.proofs.PageSpelling.{page_spelling}
 use Rattle.logs.specs.LogModel.{Entry, LogModel, Marks, limit, a_log, a_mark, held, marks, with_entries, last_version, can_append, appended, can_commit, committed, can_copy, copied, passed, noted, closed, mark_cleared, mark_passed, all_within}
-use Rattle.logs.specs.Holding.{append_taken}
+use Rattle.logs.proofs.Holding.{append_taken}
 use Rattle.logs.proofs.Numbers.{noted_is as mark-noted-is, closed_is as mark-closed-is}
 use Rattle.site.specs.Making.{is_zero, is_fresh_log}
 use Rattle.group.proofs.Leasts.{every_within, all_zeros}

@@ -17,7 +17,7 @@ use Rattle.account.specs.Account.{Account, Committed, an_account, raise, decide,
 use Rattle.account.proofs.Entries.{report_own}
 use Rattle.account.proofs.Horizons.{horizon_next, known_up_to_last}
 use Rattle.logs.specs.LogModel.{Entry, LogModel, Marks, an_entry as entry_of, limit, a_log, a_mark, held, marks, entry_at, least, last_version, can_append, can_commit, passed, ticketed, trimmed}
-use Rattle.logs.specs.Holding.{entry_above, append_parts}
+use Rattle.logs.proofs.Holding.{entry_above, append_parts}
 use Rattle.logs.proofs.Entries.{above_floor, below_last}
 use Rattle.site.specs.SiteModel.{SiteModel}
 use Rattle.site.specs.Making.{is_fresh_log}

@@ -1,5 +1,5 @@
 -- Pages in a ring: what they hold, one page more, and fewer.
-use Rattle.std.specs.Prelude.{◌≡◌, ℕ, zero, suc, ◌+◌, ◌-◌, ◌*◌, ◌<◌, ◌≤◌, min, true, leb, List, [], ◌∷◌, ◌++◌, length, get_or, take, drop, Some, nat_le, slice_index_or, refl}
+use Rattle.std.specs.Prelude.{◌≡◌, ℕ, ◌+◌, ◌-◌, ◌*◌, ◌<◌, ◌≤◌, min, true, leb, List, [], ◌∷◌, ◌++◌, length, get_or, take, drop, Some, nat_le, slice_index_or}
 use Rattle.std.proofs.Math.Path.{sym, ap}
 use Rattle.std.proofs.Common.{◌∙◌, arith}
 use Rattle.std.proofs.lemmas.List.{length_push, length-drop, length-take-le, take_all, get_or_default}
@@ -7,7 +7,7 @@ use Rattle.std.proofs.lemmas.Bool.{leb-true}
 use Rattle.words.specs.Bits.{count_of}
 use Rattle.logs.specs.declared.ring.Ring.{Ring}
 use Rattle.logs.specs.declared.pages.Pages.{Pages}
-use Rattle.logs.specs.LogModel.{Entry, HeldBounds, limit, an_entry, a_holding, cost, total_cost, last_held, loggable, all_loggable, fits, can_append, appended, held_above}
+use Rattle.logs.specs.LogModel.{Entry, limit, an_entry, a_holding, cost, total_cost, last_held, loggable, all_loggable, fits, can_append, appended, held_above}
 use Rattle.logs.specs.RingModel.{ring_items, ring_size}
 use Rattle.logs.specs.PageWords.{page_words, pages_words, begins, entries_in}
 use Rattle.logs.specs.PagesModel.{pages_entries, pages_held, Located}
@@ -192,9 +192,6 @@ module _ (p : Pages) (v b n gone : ℕ) (bound : b ≡ min v (last_held (pages_h
 module _ (p : Pages) (v n : ℕ) (f : Located p v (Some n)) where
   pub read_inside : n + (3 + 2 * length f.0.writes) ≤ length (ring_items p.words)
   read_inside = page_inside (ring_items p.words) n v f.0 f.2 f.3
-
-  pub read_few : length (ring_items p.words) ≤ 8192
-  read_few = omega (arith, p.words.within, p.small)
 
   pub read_count : (x : ℕ) → x ≡ slice_index_or (ring_items p.words) n x → count_of x ≡ length f.0.writes
   read_count = count_read (ring_items p.words) n v f.0 f.2 f.3

@@ -3,7 +3,7 @@ use Rattle.std.specs.Prelude.{◌≡◌, ℕ, zero, suc, ◌+◌, ◌-◌, ◌*�
 use Rattle.std.proofs.Common.{sym, ap, ◌∙◌, arith}
 use Rattle.std.specs.List.{slice_get}
 use Rattle.std.specs.Option.{option_map}
-use Rattle.std.proofs.lemmas.List.{append_assoc, append-nil, length-append, length-take, length-drop, take_at, drop_at, drop_more, drop-drop, get_or-take, get_or-drop, get_or_default, drop_all, at_drop_more}
+use Rattle.std.proofs.lemmas.List.{append_assoc, append-nil, length-take, length-drop, take_at, drop_at, drop_more, drop-drop, get_or-take, get_or-drop, get_or_default}
 use Rattle.std.proofs.lemmas.Option.{slice_get-get_or}
 use Rattle.std.proofs.lemmas.Bool.{and_parts, ltb-true, le-ltb, eq-eqb}
 use Rattle.words.specs.declared.changes.Change.{Change}

@@ -1,13 +1,13 @@
 -- Entries in the rows of a table.
-use Rattle.std.specs.Prelude.{◌≡◌, ℕ, ◌+◌, ◌-◌, ◌<◌, ◌≤◌, min, true, List, [], ◌∷◌, ◌++◌, map, length, drop, Some, nat_lt, slice_index_or, refl}
+use Rattle.std.specs.Prelude.{◌≡◌, ℕ, ◌+◌, ◌-◌, ◌<◌, ◌≤◌, min, true, [], ◌∷◌, ◌++◌, map, length, drop, Some, nat_lt, slice_index_or}
 use Rattle.std.proofs.Common.{sym, ap, ◌∙◌, arith}
-use Rattle.std.proofs.lemmas.List.{length-map, length_push, length-drop, get_or-map, map_push, drop-map}
+use Rattle.std.proofs.lemmas.List.{length_push, length-drop, get_or-map, map_push, drop-map}
 use Rattle.std.proofs.lemmas.Bool.{ltb-true}
 use Rattle.std.proofs.lemmas.Bool.Decides.{nat_tests}
 use Rattle.logs.specs.declared.ring.Ring.{Ring}
 use Rattle.logs.specs.declared.row.FlatEntry.{FlatEntry}
 use Rattle.logs.specs.declared.table.Table.{Table}
-use Rattle.logs.specs.LogModel.{Entry, HeldBounds, limit, a_holding, total_cost, last_held, all_loggable, fits, can_append, appended, held_above, entry_held}
+use Rattle.logs.specs.LogModel.{Entry, limit, a_holding, last_held, all_loggable, fits, can_append, appended, held_above, entry_held}
 use Rattle.logs.specs.RingModel.{ring_items, ring_size}
 use Rattle.logs.specs.RowModel.{row_entry}
 use Rattle.logs.specs.TableModel.{table_held}

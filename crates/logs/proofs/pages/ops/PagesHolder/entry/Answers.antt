@@ -3,7 +3,7 @@ use Rattle.std.specs.Option.{option_map}
 use Rattle.logs.specs.LogModel.{head_of}
 use Rattle.logs.specs.RingModel.{ring_items}
 use Rattle.logs.proofs.PageLaws.{head_read}
-use Rattle.logs.proofs.Laid.{read_inside, read_few}
+use Rattle.logs.proofs.Laid.{read_inside}
 use Rattle.logs.proofs.pages.ops.PagesHolder.entry.Goals as goal
 
 pub at-head-requires : goal.at-head-requires
@@ -12,7 +12,7 @@ at-head-requires c = omega (arith, read_inside c.args.self.now c.args.version c.
 pub overflow_add-page : goal.overflow_add-page
 overflow_add-page c =
     let p = c.args.self.now in
-    omega (arith, read_inside p c.args.version c.in_ok-page.page c.in_ok-page.ensures, read_few p)
+    omega (arith, read_inside p c.args.version c.in_ok-page.page c.in_ok-page.ensures)
 
 pub at-requires : goal.at-requires
 at-requires c = omega (arith, read_inside c.args.self.now c.args.version c.in_ok-page.page c.in_ok-page.ensures)

@@ -3,7 +3,7 @@ use Rattle.std.proofs.lemmas.Option.{slice_get_past}
 use Rattle.logs.specs.LogModel.{write_of}
 use Rattle.logs.specs.RingModel.{ring_items}
 use Rattle.logs.proofs.PageLaws.{write_read}
-use Rattle.logs.proofs.Laid.{read_inside, read_few, read_count}
+use Rattle.logs.proofs.Laid.{read_inside, read_count}
 use Rattle.logs.proofs.pages.ops.PagesHolder.write.Goals as goal
 
 pub at-requires : goal.at-requires
@@ -18,14 +18,14 @@ returns-then-number-count c =
 pub overflow_add-place : goal.overflow_add-place
 overflow_add-place c =
     let p = c.args.self.now in
-    omega (arith, read_inside p c.args.version c.in_ok-page.page c.in_ok-page.ensures, read_few p)
+    omega (arith, read_inside p c.args.version c.in_ok-page.page c.in_ok-page.ensures)
 
 pub overflow_add-place-2 : goal.overflow_add-place-2
 overflow_add-place-2 c =
     let p = c.args.self.now in
     let f = c.in_ok-page.ensures in
     let n = read_count p c.args.version c.in_ok-page.page f c.at.result.now c.at.ensures in
-    omega (arith, n, c.count.ensures, read_inside p c.args.version c.in_ok-page.page f, read_few p)
+    omega (arith, n, c.count.ensures, read_inside p c.args.version c.in_ok-page.page f)
 
 pub at-requires-2 : goal.at-requires-2
 at-requires-2 c =
@@ -39,7 +39,7 @@ overflow_add-place-3 c =
     let p = c.args.self.now in
     let f = c.in_ok-page.ensures in
     let n = read_count p c.args.version c.in_ok-page.page f c.at.result.now c.at.ensures in
-    omega (arith, n, c.count.ensures, read_inside p c.args.version c.in_ok-page.page f, read_few p)
+    omega (arith, n, c.count.ensures, read_inside p c.args.version c.in_ok-page.page f)
 
 pub at-requires-3 : goal.at-requires-3
 at-requires-3 c =
