@@ -1,143 +1,142 @@
 -- Chains: that they stay sound, and what their reads and marks are.
-use Rattle.std.proofs.Common.{◌≡◌, ℕ, zero, suc, ◌+◌, ◌<◌, ◌≤◌, max, Bool, true, not, eqb, ltb, List, length, get_or, take, drop, set, Some, sym, refl, ap, ◌∙◌, subst, add-one, arith}
+use Rattle.std.proofs.Common.{◌≡◌, ℕ, ◌+◌, ◌-◌, ◌<◌, ◌≤◌, Bool, true, false, ltb, List, ◌++◌, length, get_or, take, drop, set, replicate, Option, Some, None, is_some, sym, refl, ap, ◌∙◌, subst, arith}
 use Rattle.std.specs.List.{range_with_len}
 use Rattle.std.specs.List.Sorted.{IsPermutation}
 use Rattle.std.proofs.lemmas.List.FromFn.{length-range_with_len}
-use Rattle.std.proofs.lemmas.List.{length-set, length-take-le, get_or-set_other, get_or-take}
+use Rattle.std.proofs.lemmas.List.{length-set, length-take-le, get_or-set_other, get_or-take, get_or_default, take_all}
 use Rattle.std.proofs.lemmas.List.Sorted.{length_permutation}
 use Rattle.store.specs.declared.chains.Chains.{Chains}
+use Rattle.store.specs.declared.links.Linked.{Linked}
 use Rattle.store.specs.declared.records.Record.{Record}
 use Rattle.store.specs.ChainsModel.{chains_row, chains_model}
+use Rattle.store.specs.Counts.{Counts, counts, a_counts, one_staged}
 use Rattle.store.specs.Rows.{blank, of_version, last_place, at_place, replaced, unmarked, row_model}
-use Rattle.store.specs.Slots.{laid, link_to, Below, Apart, SlotNexts, SlotTops}
-use Rattle.store.specs.StoreModel.{every, at_most, matches, latest, value_in, pruned, pruned_to}
-use Rattle.store.specs.ChainsRow.{chains_sound}
-use Rattle.store.proofs.Marks.{marks_more, marks_all}
-use Rattle.store.proofs.Places.{place_le, latest_below}
-use Rattle.store.specs.RowChanges.{RowSound, row_pruned, pruned_sound}
-use Rattle.store.proofs.SlotWalks.{laid_at, laid_long}
-use Rattle.store.proofs.SlotRows.{counting_below, counting_apart, closed_front, closed_behind, laid_set, apart_shuffled, below_shuffled, later_link, place_taken, slot_nexts_same, slot_tops_same}
+use Rattle.store.specs.Slots.{laid, later_slot, Below, Apart, SlotNexts, SlotTops}
+use Rattle.store.specs.StoreModel.{every, at_most, matches, latest, value_in, value_of, pruned, pruned_to}
+use Rattle.store.specs.ChainsRow.{laid_long, chains_sound}
+use Rattle.store.specs.RowChanges.{RowSound, tally_sound, front_part, row_pruned, pruned_sound}
+use Rattle.store.proofs.LinkedRow.{linked_row, linked_long}
+use Rattle.store.proofs.Marks.{length_replaced, mark_here, marks_more, left_long, left_front, left_behind}
+use Rattle.store.proofs.Places.{place_le, at_place_here, latest_below}
+use Rattle.store.proofs.SlotWalks.{laid_at}
+use Rattle.store.proofs.SlotRows.{counting_below, counting_apart, closed_front, closed_behind, laid_set, apart_shuffled, below_shuffled, is_later, later_none, later_found, place_taken, slot_nexts_same, slot_tops_same}
 
--- Records xs in slots os, with the links ns and the heads hs of the first n of them
-pub record ChainSound (xs : List Record) (os ns hs : List ℕ) (n : ℕ) : Type 0 where
+-- Records xs in slots os, with the links ns and the heads hs of the first of them, as q counts them
+pub record ChainSound (xs : List Record) (os ns hs : List ℕ) (q : Counts) : Type 0 where
+  pub whole : length os ≡ q.capacity
   pub memory : length os ≤ length xs
   pub links : length os ≤ length ns
   pub below : Below (length os) os
   pub apart : Apart os
-  pub linked : SlotNexts (laid xs os) os ns n
-  pub topped : SlotTops (laid xs os) os hs n
-
-pub chain_sound : (s : Chains) → ChainSound s.records.items s.slots.items s.next.items s.heads s.sealed
-chain_sound s = record {
-  memory = s.memory;
-  links = s.links;
-  below = s.below;
-  apart = s.apart;
-  linked = s.linked;
-  topped = s.topped;
-}
+  pub linked : SlotNexts (laid xs os) os ns q.sealed
+  pub topped : SlotTops (laid xs os) os hs q.sealed
 
 -- the same, with what the row owes, as the ghost fields of the struct ask for it
-pub both_owed : {xs : List Record} {os ns hs : List ℕ} {v n t : ℕ} → ChainSound xs os ns hs n → RowSound (laid xs os) (length os) v n t → record {
+pub both_owed : {xs : List Record} {os ns hs : List ℕ} {q : Counts} → ChainSound xs os ns hs q → RowSound (laid xs os) q → record {
+  whole : length os ≡ q.capacity;
   memory : length os ≤ length xs;
   links : length os ≤ length ns;
   below : Below (length os) os;
   apart : Apart os;
-  linked : SlotNexts (laid xs os) os ns n;
-  topped : SlotTops (laid xs os) os hs n;
-  room : length os ≤ length (laid xs os);
-  small : length os ≤ 4096;
-  counts : n + t ≤ length os;
-  high : v ≤ 268435455;
-  past : every (at_most v) (take n (laid xs os)) ≡ true;
-  coming : every (of_version (v + 1)) (take t (drop n (laid xs os))) ≡ true;
+  linked : SlotNexts (laid xs os) os ns q.sealed;
+  topped : SlotTops (laid xs os) os hs q.sealed;
+  past : every (at_most q.version) (take q.sealed (laid xs os)) ≡ true;
+  coming : every (of_version (q.version + 1)) (take q.staged (drop q.sealed (laid xs os))) ≡ true;
 }
 both_owed c s = record {
+  whole = c.whole;
   memory = c.memory;
   links = c.links;
   below = c.below;
   apart = c.apart;
   linked = c.linked;
   topped = c.topped;
-  room = s.room;
-  small = s.small;
-  counts = s.counts;
-  high = s.high;
   past = s.past;
   coming = s.coming;
 }
 
--- what holds of the slices ys and ps holds of the records and slots that they show
-module _ (xs ys : List Record) (os ps : List ℕ) (n : ℕ) (records : ys ≡ xs) (slots : ps ≡ os) where
-  pub shown_nexts : (ns : List ℕ) → SlotNexts (laid ys ps) ps ns n → SlotNexts (laid xs os) os ns n
-  shown_nexts ns h = subst (λ zs. SlotNexts (laid zs os) os ns n) records (subst (λ qs. SlotNexts (laid ys qs) qs ns n) slots h)
+-- Reads
 
-  pub shown_tops : (hs : List ℕ) → SlotTops (laid ys ps) ps hs n → SlotTops (laid xs os) os hs n
-  shown_tops hs h = subst (λ zs. SlotTops (laid zs os) os hs n) records (subst (λ qs. SlotTops (laid ys qs) qs hs n) slots h)
+module _ (s : Chains) (p : Record → Bool) where
+  row_long : s.tally.sealed ≤ length (chains_row s)
+  row_long = let fits = s.tally.fits in let whole = s.whole in omega (arith, laid_long s.records.items s.slots.items)
 
--- A link leads to a slot
+  low : last_place p (chains_row s) s.tally.sealed ≤ s.tally.sealed
+  low = place_le p (chains_row s) s.tally.sealed
 
-pub link_inside : (os : List ℕ) (q : ℕ) → Below (length os) os → q ≤ length os → link_to os q ≤ length os
-link_inside os zero below h = omega arith
-link_inside os (suc i) below h = omega (arith, below i (omega arith))
+  pub none_read : None ≡ later_slot s.slots.items 0 (last_place p (chains_row s) s.tally.sealed) → None ≡ value_in (latest p (take s.tally.sealed (chains_row s)))
+  none_read e =
+      let none : last_place p (chains_row s) s.tally.sealed ≤ 0 = later_none _ _ _ e in
+      let z : 0 ≡ last_place p (chains_row s) s.tally.sealed = omega arith in
+      ap (λ k. value_in (at_place (chains_row s) k)) z ∙ ap value_in (sym (latest_below p (chains_row s) s.tally.sealed row_long))
 
-at_slot : (xs : List Record) (os : List ℕ) (q : ℕ) → q ≤ length os → at_place xs (link_to os q) ≡ at_place (laid xs os) q
-at_slot xs os zero h = refl
-at_slot xs os (suc i) h = rw (add-one (get_or os i 0)) (ap Some (sym (laid_at xs os i (omega arith))))
+  module _ (slot : ℕ) (found : Some slot ≡ later_slot s.slots.items 0 (last_place p (chains_row s) s.tally.sealed)) where
+    pub slot_found : slot < length s.records.items
+    slot_found =
+        let place = later_found _ _ _ slot found in
+        let fits = s.tally.fits in
+        let whole = s.whole in
+        let memory = s.memory in
+        let inside : last_place p (chains_row s) s.tally.sealed - 1 < length s.slots.items = omega (arith, low, place.0) in
+        omega (arith, place.1, s.below _ inside)
 
--- what is read at the link to the last record that passes
-pub value_linked : (s : Chains) (p : Record → Bool) (link : ℕ) → link ≡ link_to s.slots.items (max 0 (last_place p (chains_row s) s.sealed)) →
-    value_in (at_place s.records.items link) ≡ value_in (latest p (take s.sealed (chains_row s)))
-value_linked s p link e =
-    let counts = s.counts in
-    let last = last_place p (chains_row s) s.sealed in
-    let low = place_le p (chains_row s) s.sealed in
-    let top : max 0 (last_place p (chains_row s) s.sealed) ≡ last_place p (chains_row s) s.sealed = omega arith in
-    ap (λ k. value_in (at_place s.records.items k)) (e ∙ ap (link_to s.slots.items) top)
-    ∙ ap value_in (at_slot s.records.items s.slots.items last (omega arith))
-    ∙ ap value_in (sym (latest_below p (chains_row s) s.sealed (omega (arith, laid_long s.records.items s.slots.items))))
+    pub value_read : (r : Record) → r ≡ get_or s.records.items slot r → value_of r.change ≡ value_in (latest p (take s.tally.sealed (chains_row s)))
+    value_read r e =
+        let place = later_found _ _ _ slot found in
+        let fits = s.tally.fits in
+        let whole = s.whole in
+        let last = last_place p (chains_row s) s.tally.sealed in
+        let inside : last_place p (chains_row s) s.tally.sealed - 1 < length s.slots.items = omega (arith, low, place.0) in
+        let read : get_or (chains_row s) (last_place p (chains_row s) s.tally.sealed - 1) blank ≡ r =
+        laid_at s.records.items s.slots.items (last - 1) inside
+        ∙ ap (λ o. get_or s.records.items o blank) (sym place.1)
+        ∙ get_or_default s.records.items slot blank r slot_found
+        ∙ sym e in
+        ap (λ x. value_of x.change) (sym read)
+        ∙ ap value_in (sym (at_place_here (chains_row s) last blank place.0 (omega (arith, low, row_long))))
+        ∙ ap value_in (sym (latest_below p (chains_row s) s.tally.sealed row_long))
 
-pub link_read_inside : (s : Chains) (p : Record → Bool) (link : ℕ) → link ≡ link_to s.slots.items (max 0 (last_place p (chains_row s) s.sealed)) →
-    link ≤ length s.records.items
-link_read_inside s p link e =
-    let counts = s.counts in
-    let memory = s.memory in
-    let low = place_le p (chains_row s) s.sealed in
-    let q : max 0 (last_place p (chains_row s) s.sealed) ≤ length s.slots.items = omega arith in
-    omega (arith, link_inside s.slots.items _ s.below q)
+-- what is found in chains is found in their records
+pub same_found : (s : Chains) (l : Linked) (p : Record → Bool) → l.row.records.now ≡ s.records.items → l.row.slots.now ≡ s.slots.items → l.count ≡ s.tally.sealed →
+    later_slot l.row.slots.now 0 (last_place p (linked_row l) l.count) ≡ later_slot s.slots.items 0 (last_place p (chains_row s) s.tally.sealed)
+same_found s l p a b e = rw (a, b, e)
 
--- one mark more: x is the record at place i, whose walk came to `found` and stops at `stop`
-pub mark_more : (s : Chains) (to i : ℕ) (gs : List Bool) (x : Record) (found stop : ℕ) → i < s.sealed → i < length gs →
-    get_or (chains_row s) i blank ≡ x →
-    found ≡ link_to s.slots.items (max (i + 1) (last_place (matches x.item to) (chains_row s) s.sealed)) →
-    stop ≡ link_to s.slots.items (i + 1) →
-    take i gs ≡ take i (replaced to (take s.sealed (chains_row s))) →
-    take (i + 1) (set gs i (not (eqb found stop))) ≡ take (i + 1) (replaced to (take s.sealed (chains_row s)))
-mark_more s to i gs x found stop h g here f e before =
-    let counts = s.counts in
-    let n = s.sealed in
-    let row = chains_row s in
-    let rs = take s.sealed (chains_row s) in
-    let long : s.sealed ≤ length (chains_row s) = omega (arith, laid_long s.records.items s.slots.items) in
-    let low = place_le (matches x.item to) (chains_row s) s.sealed in
-    let same : get_or (take s.sealed (chains_row s)) i blank ≡ x = get_or-take n row i blank h ∙ here in
-    let mark : not (eqb found stop) ≡ ltb (i + 1) (last_place (matches (get_or (take s.sealed (chains_row s)) i blank).item to) (take s.sealed (chains_row s)) (length (take s.sealed (chains_row s)))) =
-    ap (λ k. not (eqb k stop)) f
-    ∙ ap (λ k. not (eqb (link_to s.slots.items (max (i + 1) (last_place (matches x.item to) row n))) k)) e
-    ∙ later_link s.slots.items i (last_place (matches x.item to) row n) s.apart (omega arith) (omega arith)
+-- the marks of the records in use, as the slices show them
+pub marks_shown : (s : Chains) (l : Linked) (to : ℕ) (gs : List Bool) → l.row.records.now ≡ s.records.items → l.row.slots.now ≡ s.slots.items → l.count ≡ s.tally.sealed →
+    gs ≡ replaced to (take l.count (linked_row l)) ++ drop l.count (replicate 4096 false) →
+    take (s.tally.sealed + s.tally.staged - 0) gs ≡ take (s.tally.sealed + s.tally.staged) (replaced to (take s.tally.sealed (chains_row s)) ++ drop s.tally.sealed (replicate 4096 false))
+marks_shown s l to gs a b e m = front_part _ gs (s.tally.sealed + s.tally.staged) m ∙ rw (a, b, e)
+
+-- one mark more: x is the record at place i, and `found` is what was found behind it
+pub mark_found : (s : Linked) (to i : ℕ) (fs gs : List Bool) (x : Record) (found : Option ℕ) → i < s.count → i < length fs →
+    get_or (linked_row s) i blank ≡ x →
+    found ≡ later_slot s.row.slots.now (i + 1) (last_place (matches x.item to) (linked_row s) s.count) →
+    gs ≡ take i (replaced to (take s.count (linked_row s))) ++ drop i fs →
+    set gs i (is_some found) ≡ take (i + 1) (replaced to (take s.count (linked_row s))) ++ drop (i + 1) fs
+mark_found s to i fs gs x found h g here f before =
+    let n = s.count in
+    let row = linked_row s in
+    let rs = take s.count (linked_row s) in
+    let long = linked_long s in
+    let inside : i < length (take s.count (linked_row s)) = omega (arith, length-take-le n row long) in
+    let same : get_or (take s.count (linked_row s)) i blank ≡ x = get_or-take n row i blank h ∙ here in
+    let mark : is_some found ≡ get_or (replaced to (take s.count (linked_row s))) i false =
+    ap is_some f
+    ∙ is_later s.row.slots.now (i + 1) (last_place (matches x.item to) row n)
     ∙ ap (ltb (i + 1)) (sym (place_taken (matches x.item to) row n long))
-    ∙ ap (λ y. ltb (i + 1) (last_place (matches y.item to) rs (length rs))) (sym same) in
-    ap (λ b. take (i + 1) (set gs i b)) mark
-    ∙ marks_more to rs gs i blank (omega (arith, length-take-le n row long)) g before
+    ∙ ap (λ y. ltb (i + 1) (last_place (matches y.item to) rs (length rs))) (sym same)
+    ∙ mark_here to rs i blank inside in
+    ap (set gs i) mark
+    ∙ marks_more (replaced to rs) fs gs i (omega (arith, length_replaced to rs)) g before
 
-pub marks_done : (s : Chains) (to i : ℕ) (gs : List Bool) → i ≤ s.sealed → s.sealed ≤ i →
-    take i gs ≡ take i (replaced to (take s.sealed (chains_row s))) →
-    take s.sealed gs ≡ replaced to (take s.sealed (chains_row s))
-marks_done s to i gs h l e =
-    let counts = s.counts in
-    let long : s.sealed ≤ length (chains_row s) = omega (arith, laid_long s.records.items s.slots.items) in
-    let n = length-take-le s.sealed (chains_row s) long in
-    ap (λ k. take k gs) (sym n) ∙ marks_all to (take s.sealed (chains_row s)) gs i (omega arith) (omega arith) e
+pub marks_all : (s : Linked) (to i : ℕ) (fs gs : List Bool) → i ≤ s.count → s.count ≤ i →
+    gs ≡ take i (replaced to (take s.count (linked_row s))) ++ drop i fs →
+    gs ≡ replaced to (take s.count (linked_row s)) ++ drop s.count fs
+marks_all s to i fs gs h l e =
+    let n : i ≡ s.count = omega arith in
+    let long = linked_long s in
+    let rs = take s.count (linked_row s) in
+    e ∙ ap (λ zs. zs ++ drop i fs) (take_all i (replaced to rs) (omega (arith, length_replaced to rs, length-take-le s.count (linked_row s) long))) ∙ ap (λ k. replaced to rs ++ drop k fs) n
 
 -- Stage: r is written to the slot at place i, which no sealed record has
 
@@ -148,18 +147,19 @@ module _ (s : Chains) (i slot : ℕ) (r : Record) (inside : i < length s.slots.i
       ap (λ o. laid (set s.records.items o r) s.slots.items) is
       ∙ laid_set s.records.items s.slots.items i r s.apart inside (omega (arith, s.below i inside))
 
-  pub staged_chain : s.sealed ≤ i → ChainSound (set s.records.items slot r) s.slots.items s.next.items s.heads s.sealed
+  pub staged_chain : s.tally.sealed ≤ i → ChainSound (set s.records.items slot r) s.slots.items s.next.items s.heads (one_staged (counts s.tally))
   staged_chain h =
       let row = laid (set s.records.items slot r) s.slots.items in
-      let same : (k : ℕ) → k < s.sealed → get_or (chains_row s) k blank ≡ get_or (laid (set s.records.items slot r) s.slots.items) k blank =
+      let same : (k : ℕ) → k < s.tally.sealed → get_or (chains_row s) k blank ≡ get_or (laid (set s.records.items slot r) s.slots.items) k blank =
       λ k l. sym (get_or-set_other (chains_row s) i k r blank (λ q. omega arith)) ∙ ap (λ xs. get_or xs k blank) (sym staged_row) in
       record {
+        whole = s.whole;
         memory = simp length-set s.memory;
         links = s.links;
         below = s.below;
         apart = s.apart;
-        linked = slot_nexts_same (chains_row s) row s.slots.items s.sealed same s.next.items s.linked;
-        topped = slot_tops_same (chains_row s) row s.slots.items s.sealed same s.heads s.topped;
+        linked = slot_nexts_same (chains_row s) row s.slots.items s.tally.sealed same s.next.items s.linked;
+        topped = slot_tops_same (chains_row s) row s.slots.items s.tally.sealed same s.heads s.topped;
       }
 
 -- Prune: ps are the slots afterwards, in another order, and the first k of them are those of the sealed records
@@ -175,42 +175,62 @@ module _ (s : Chains) (ps : List ℕ) (shuffled : IsPermutation s.slots.items ps
   pub shuffled_apart : Apart ps
   shuffled_apart = apart_shuffled s.slots.items ps shuffled s.apart
 
-  module _ (to k : ℕ) (gs : List Bool) (fewer : k ≤ s.sealed)
-      (marked : take s.sealed gs ≡ replaced to (take s.sealed (chains_row s)))
-      (front : take k ps ≡ unmarked gs (take s.sealed s.slots.items))
-      (behind : take s.staged (drop k ps) ≡ take s.staged (drop s.sealed s.slots.items)) where
-    marks : take (length (take s.sealed (chains_row s))) gs ≡ replaced to (take s.sealed (chains_row s))
-    marks =
-        let counts = s.counts in
-        let long : s.sealed ≤ length (chains_row s) = omega (arith, laid_long s.records.items s.slots.items) in
-        ap (λ n. take n gs) (length-take-le s.sealed (chains_row s) long) ∙ marked
+  -- gs are the marks of the records in use, and r of those are left
+  module _ (to r : ℕ) (gs : List Bool)
+      (marks : gs ≡ take (s.tally.sealed + s.tally.staged) (replaced to (take s.tally.sealed (chains_row s)) ++ drop s.tally.sealed (replicate 4096 false)))
+      (bound : r ≤ length ps) (left : take r ps ≡ unmarked gs (take (length gs) s.slots.items)) where
+    many : length (replaced to (take s.tally.sealed (chains_row s))) ≡ s.tally.sealed
+    many =
+        let fits = s.tally.fits in
+        let whole = s.whole in
+        length_replaced to (take s.tally.sealed (chains_row s))
+        ∙ length-take-le s.tally.sealed (chains_row s) (omega (arith, laid_long s.records.items s.slots.items))
 
-    row_front : take k (laid s.records.items ps) ≡ pruned to (take s.sealed (chains_row s))
-    row_front = closed_front s.records.items s.slots.items ps gs to s.sealed k s.staged marks front behind
+    row : s.tally.sealed + s.tally.staged ≤ length s.slots.items
+    row = let fits = s.tally.fits in let whole = s.whole in omega arith
 
-    row_behind : take s.staged (drop k (laid s.records.items ps)) ≡ take s.staged (drop s.sealed (chains_row s))
-    row_behind = closed_behind s.records.items s.slots.items ps gs to s.sealed k s.staged marks front behind
+    within : s.tally.sealed + s.tally.staged ≤ 4096
+    within = let fits = s.tally.fits in let small = s.tally.small in omega arith
 
-    row_long : length (laid s.records.items ps) ≡ length (chains_row s)
-    row_long = laid_long s.records.items ps ∙ shuffled_long ∙ sym (laid_long s.records.items s.slots.items)
+    front : take (r - s.tally.staged) (laid s.records.items ps) ≡ pruned to (take s.tally.sealed (chains_row s))
+    front =
+        let n = s.tally.sealed in
+        let t = s.tally.staged in
+        let ms = replaced to (take s.tally.sealed (chains_row s)) in
+        closed_front s.records.items s.slots.items ps to n (r - t) t
+        (left_front ms gs 4096 s.slots.items ps n t r marks many row within bound left)
+        (left_behind ms gs 4096 s.slots.items ps n t r marks many row within bound left)
 
-    pub closed_model : row_model (laid s.records.items ps) (length ps) s.version k s.staged ≡ pruned_to to (chains_model s)
-    closed_model =
-        ap (λ c. row_model (laid s.records.items ps) c s.version k s.staged) shuffled_long
-        ∙ row_pruned _ _ _ _ _ (chains_sound s) to (laid s.records.items ps) k fewer row_long row_front row_behind
+    behind : take s.tally.staged (drop (r - s.tally.staged) (laid s.records.items ps)) ≡ take s.tally.staged (drop s.tally.sealed (chains_row s))
+    behind =
+        let n = s.tally.sealed in
+        let t = s.tally.staged in
+        let ms = replaced to (take s.tally.sealed (chains_row s)) in
+        closed_behind s.records.items s.slots.items ps to n (r - t) t
+        (left_front ms gs 4096 s.slots.items ps n t r marks many row within bound left)
+        (left_behind ms gs 4096 s.slots.items ps n t r marks many row within bound left)
 
-    pub closed_sound : RowSound (laid s.records.items ps) (length ps) s.version k s.staged
-    closed_sound =
-        subst (λ c. RowSound (laid s.records.items ps) c s.version k s.staged) (sym shuffled_long)
-        (pruned_sound _ _ _ _ _ (chains_sound s) to (laid s.records.items ps) k fewer row_long row_front row_behind)
+    long : length (laid s.records.items ps) ≡ length (chains_row s)
+    long = laid_long s.records.items ps ∙ shuffled_long ∙ sym (laid_long s.records.items s.slots.items)
+
+    pub closed_staged : s.tally.staged ≤ r
+    closed_staged =
+        omega (arith, left_long (replaced to (take s.tally.sealed (chains_row s))) gs 4096 s.slots.items ps s.tally.sealed s.tally.staged r marks many row within bound left)
+
+    pub closed_model : row_model (laid s.records.items ps) (a_counts s.tally.capacity s.tally.version (r - s.tally.staged) s.tally.staged) ≡ pruned_to to (chains_model s)
+    closed_model = row_pruned _ _ (tally_sound s.tally) (chains_sound s) to (laid s.records.items ps) (r - s.tally.staged) long front behind
+
+    pub closed_sound : RowSound (laid s.records.items ps) (a_counts s.tally.capacity s.tally.version (r - s.tally.staged) s.tally.staged)
+    closed_sound = pruned_sound _ _ (tally_sound s.tally) (chains_sound s) to (laid s.records.items ps) (r - s.tally.staged) long front behind
 
 -- A fresh store: its slots are those below the capacity, in order
 
 pub fresh_sound : (xs : List Record) (os ns hs : List ℕ) (c : ℕ) → os ≡ range_with_len 0 c → c ≤ length xs → c ≤ length ns →
-    ((b : ℕ) → b < 64 → get_or hs b 0 ≡ 0) → ChainSound xs os ns hs 0
+    ((b : ℕ) → b < 64 → get_or hs b 0 ≡ 0) → ChainSound xs os ns hs (a_counts c 0 0 0)
 fresh_sound xs os ns hs c e memory links tops =
     let long : length os ≡ c = ap length e ∙ length-range_with_len 0 c in
     record {
+      whole = long;
       memory = omega arith;
       links = omega arith;
       below = subst (λ zs. Below (length zs) zs) (sym e) (counting_below c);
@@ -219,14 +239,7 @@ fresh_sound xs os ns hs c e memory links tops =
       topped = tops;
     }
 
-pub fresh_row : (xs : List Record) (os : List ℕ) (c : ℕ) → os ≡ range_with_len 0 c → c ≤ 4096 → RowSound (laid xs os) (length os) 0 0 0
-fresh_row xs os c e small =
+pub fresh_row : (xs : List Record) (os : List ℕ) (c : ℕ) → os ≡ range_with_len 0 c → RowSound (laid xs os) (a_counts c 0 0 0)
+fresh_row xs os c e =
     let long : length os ≡ c = ap length e ∙ length-range_with_len 0 c in
-    record {
-      room = omega (arith, laid_long xs os);
-      small = omega arith;
-      counts = omega arith;
-      high = omega arith;
-      past = refl;
-      coming = refl;
-    }
+    record { room = omega (arith, laid_long xs os); past = refl; coming = refl }

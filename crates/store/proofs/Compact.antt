@@ -1,10 +1,10 @@
 -- Closing the gaps in a row, by exchanges.
-use Rattle.std.proofs.Common.{◌≡◌, ℕ, ◌+◌, ◌<◌, ◌≤◌, Bool, true, false, cond, List, [], ◌∷◌, ◌++◌, length, get_or, take, drop, set, sym, refl, ap, ◌∙◌, subst, ⊎_elim, arith}
+use Rattle.std.proofs.Common.{◌≡◌, ℕ, ◌+◌, ◌<◌, ◌≤◌, Bool, true, false, cond, List, [], ◌∷◌, ◌++◌, length, get_or, take, drop, set, sym, refl, ap, ◌∙◌, ⊎_elim, arith}
 use Rattle.std.specs.List.{swap}
 use Rattle.std.specs.List.Sorted.{IsPermutation}
 use Rattle.std.proofs.lemmas.List.Edits.{swap_is}
-use Rattle.std.proofs.lemmas.List.{at_drop_more, at_drop_all, drop-drop, drop-take, drop_at, take-take, take_at, drop-set-lt, take_more, take_more_set, take-set-le, append_assoc, append-nil, length-take-le, length-drop, set-set, get_or-take, get_or-drop}
-use Rattle.std.proofs.lemmas.List.Sorted.{IsPermutation-refl, IsPermutation-swap, IsPermutation-trans, length_permutation}
+use Rattle.std.proofs.lemmas.List.{at_drop_more, at_drop_all, drop-drop, drop-set-lt, take_more_set, take-set-le, append_assoc, append-nil, length-take-le, set-set, get_or-take, get_or-drop}
+use Rattle.std.proofs.lemmas.List.Sorted.{IsPermutation-swap, IsPermutation-trans, length_permutation}
 use Rattle.std.proofs.lemmas.Bool.{cases_lt}
 use Rattle.store.specs.Rows.{unmarked}
 
@@ -59,17 +59,6 @@ module _ {X : Type 0} where
       at_drop_more (λ zs. unmarked zs (drop i xs)) gs i false g
       ∙ at_drop_more (unmarked (get_or gs i false ∷ drop (i + 1) gs)) xs i d l
       ∙ rw e
-
-  pub compacting_none : (gs : List Bool) (s : ℕ) (xs : List X) → s ≤ length xs → s ≤ length gs → Compacting gs s xs xs 0 0
-  compacting_none gs s xs h g = record {
-    front = refl;
-    rest = refl;
-    behind = omega arith;
-    within = omega arith;
-    row = h;
-    marks = g;
-    shuffled = IsPermutation-refl xs;
-  }
 
   module _ {gs : List Bool} {s : ℕ} {xs ys : List X} {k i : ℕ} (c : Compacting gs s xs ys k i) where
     pub compacting_long : length ys ≡ length xs
@@ -133,60 +122,3 @@ module _ {X : Type 0} where
           sym (append-nil (take k ys))
           ∙ ap (λ zs. take k ys ++ zs) (sym (none_left (drop i gs)) ∙ sym (at_drop_all (unmarked (drop i gs)) (take s xs) i (omega arith)))
           ∙ c.front
-
-      pub compacting_rest : drop s ys ≡ drop s xs
-      compacting_rest =
-          let w = c.within in
-          let e : i ≡ s = omega arith in
-          subst (λ n. drop n ys ≡ drop n xs) e c.rest
-
-  -- ys began as xs, and i elements from `from` on have been moved down to `to`
-  pub record Moving (from to : ℕ) (xs ys : List X) (i : ℕ) : Type 0 where
-    pub front : take (to + i) ys ≡ take to xs ++ take i (drop from xs)
-    pub rest : drop (from + i) ys ≡ drop (from + i) xs
-    pub shuffled : IsPermutation xs ys
-
-  pub moving_none : (from to : ℕ) (xs : List X) → Moving from to xs xs 0
-  moving_none from to xs = record {
-    front = ap (λ n. take n xs) (omega arith) ∙ sym (append-nil (take to xs));
-    rest = refl;
-    shuffled = IsPermutation-refl xs;
-  }
-
-  module _ {from to : ℕ} {xs ys : List X} {i : ℕ} (m : Moving from to xs ys i) where
-    pub moving_long : length ys ≡ length xs
-    moving_long = length_permutation xs ys m.shuffled
-
-    pub moving_more : (zs : List X) → to ≤ from → from + i < length xs → zs ≡ swap ys (to + i) (from + i) → Moving from to xs zs (i + 1)
-    moving_more zs down within e =
-        let d = any_of xs (from + i) within in
-        let long = moving_long in
-        let a : to + (i + 1) ≡ to + i + 1 = omega arith in
-        let b : from + (i + 1) ≡ from + i + 1 = omega arith in
-        let there : get_or ys (from + i) d ≡ get_or (drop from xs) i d = same_element xs ys (from + i) d m.rest ∙ sym (get_or-drop from xs i d) in
-        record {
-          front =
-              ap (λ n. take n zs) a
-              ∙ ap (take (to + i + 1)) e
-              ∙ swap_front ys (to + i) (from + i) d (omega arith) (omega arith)
-              ∙ rw (m.front, there) (append_assoc (take to xs) (take i (drop from xs)) (get_or (drop from xs) i d ∷ []))
-              ∙ ap (λ l. take to xs ++ l) (sym (take_more (drop from xs) i d (omega (arith, length-drop from xs))));
-          rest =
-              ap (λ n. drop n zs) b
-              ∙ ap (drop (from + i + 1)) e
-              ∙ swap_rest ys (to + i) (from + i) d (omega arith) (omega arith)
-              ∙ drop_next xs ys (from + i) m.rest
-              ∙ ap (λ n. drop n xs) (sym b);
-          shuffled = IsPermutation-trans xs ys zs m.shuffled (IsPermutation-swap ys zs (to + i) (from + i) (omega arith) (omega arith) e);
-        }
-
-  -- what was moved stands behind the front
-  module _ (xs ys : List X) (to t : ℕ) (zs : List X) (moved : take (to + t) ys ≡ take to xs ++ zs) (within : to ≤ length xs) where
-    front_long : length (take to xs) ≡ to
-    front_long = length-take-le to xs within
-
-    pub moved_front : take to ys ≡ take to xs
-    moved_front = sym (take-take to (to + t) ys (omega arith)) ∙ ap (take to) moved ∙ take_at (take to xs) zs to front_long
-
-    pub moved_behind : take t (drop to ys) ≡ zs
-    moved_behind = sym (drop-take to t ys) ∙ ap (drop to) moved ∙ drop_at (take to xs) zs to front_long

@@ -4,6 +4,7 @@ pub mod Marks
 pub mod Compact
 pub mod SlotWalks
 pub mod SlotRows
-pub mod ChainsRow
+pub mod LinkedRow
 pub mod ChainsChanges
+pub mod JournalChanges
 pub mod LawProofs

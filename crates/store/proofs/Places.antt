@@ -1,11 +1,13 @@
 -- Places in a row of records.
 use Rattle.std.specs.Prelude.{◌≡◌, ℕ, zero, suc, ◌+◌, ◌-◌, ◌<◌, ◌≤◌, Bool, true, false, cond, List, [], ◌∷◌, ◌++◌, length, get_or, take, drop, Some, nat_lt, slice_index_or, refl}
-use Rattle.std.proofs.Common.{sym, ap, ◌∙◌, ⊎_elim, add-one, arith}
-use Rattle.std.proofs.lemmas.List.{take_more, take_all, get_or_default, at_drop_all, drop-append-le, length_push, length-take-le}
+use Rattle.std.proofs.Common.{sym, ap, ◌∙◌, ⊎_elim, add-one, arith, find, reverse, Option, None}
+use Rattle.std.specs.Option.{option_or}
+use Rattle.std.proofs.lemmas.List.Folds.{find-append}
+use Rattle.std.proofs.lemmas.List.{reverse-append, take_more, take_all, get_or_default, at_drop_all, drop-append-le, length_push, length-take-le}
 use Rattle.std.proofs.lemmas.Bool.{cases_Bool, cases_lt, both_ways, lt-ltb, le-ltb}
 use Rattle.store.specs.declared.records.Record.{Record}
 use Rattle.store.specs.Rows.{blank, last_place, at_place}
-use Rattle.store.specs.StoreModel.{latest, some, value_in}
+use Rattle.store.specs.StoreModel.{latest, or_else, some}
 
 pub at_place_here : (rs : List Record) (n : ℕ) (d : Record) → 0 < n → n ≤ length rs → at_place rs n ≡ Some (slice_index_or rs (n - 1) d)
 at_place_here rs zero d h l = absurd (omega arith)
@@ -20,9 +22,6 @@ module _ (p : Record → Bool) where
         | true ↦ omega arith
         | false ↦ omega (arith, place_le rs n)
       ]
-
-  pub place_within : (rs : List Record) (place : ℕ) → place ≡ last_place p rs (length rs) → place ≤ length rs
-  place_within rs place e = omega (arith, place_le rs (length rs))
 
   -- one record more, by the test of it
   pub place_more : (rs : List Record) (i : ℕ) (d : Record) (t : Bool) → i < length rs → p (slice_index_or rs i d) ≡ t →
@@ -105,9 +104,6 @@ module _ (p : Record → Bool) where
         | false ↦ latest_below rs n (omega arith)
       ]
 
-  latest_place : (rs : List Record) → latest p rs ≡ at_place rs (last_place p rs (length rs))
-  latest_place rs = ap (latest p) (sym (take_all (length rs) rs (omega arith))) ∙ latest_below rs (length rs) (omega arith)
-
   either_way : (a b c : Bool) → cond a true (cond b true c) ≡ cond b true (cond a true c)
   either_way true true c = refl
   either_way true false c = refl
@@ -141,7 +137,15 @@ module _ (p : Record → Bool) where
   some_after rs k =
       ap (λ zs. some p (drop k zs)) (sym (take_all (length rs) rs (omega arith))) ∙ some_below rs k (length rs) (omega arith)
 
--- what is read at the place of the last record that passes
-pub value_there : (p : Record → Bool) (rs : List Record) (place : ℕ) → place ≡ last_place p rs (length rs) →
-    value_in (at_place rs place) ≡ value_in (latest p rs)
-value_there p rs place e = ap (λ n. value_in (at_place rs n)) e ∙ ap value_in (sym (latest_place p rs))
+or_else_is : (o d : Option Record) → option_or o d ≡ or_else o d
+or_else_is None d = refl
+or_else_is (Some r) d = refl
+
+-- the latest record that passes is the first one from the end
+pub latest_found : (p : Record → Bool) (rs : List Record) → find p (reverse rs) ≡ latest p rs
+latest_found p [] = refl
+latest_found p (r ∷ rs) =
+    ap (find p) (reverse-append (r ∷ []) rs)
+    ∙ find-append p (reverse rs) (r ∷ [])
+    ∙ ap (λ o. option_or o (find p (r ∷ []))) (latest_found p rs)
+    ∙ or_else_is (latest p rs) (find p (r ∷ []))

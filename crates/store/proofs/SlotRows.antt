@@ -1,8 +1,8 @@
 -- Records in the order of their slots: what a change of the records or of the slots makes of it.
-use Rattle.std.proofs.Common.{◌≡◌, ℕ, ◌+◌, ◌%◌, ◌<◌, ◌≤◌, max, Bool, true, false, cond, not, eqb, ltb, List, [], ◌∷◌, ◌++◌, length, get_or, take, drop, set, sym, refl, ap, ◌∙◌, ⊎_elim, arith}
+use Rattle.std.proofs.Common.{◌≡◌, ℕ, ◌%◌, ◌-◌, ◌<◌, ◌≤◌, Bool, true, false, cond, eqb, ltb, List, Option, Some, None, is_some, [], ◌∷◌, length, get_or, take, drop, set, sym, refl, ap, ◌∙◌, ⊎_elim, arith, rules}
 use Rattle.std.specs.List.{range_with_len, swap}
 use Rattle.std.specs.List.Sorted.{IsPermutation}
-use Rattle.std.proofs.lemmas.List.FromFn.{length-range_with_len, get_or-range_with_len, map-range_with_len_more}
+use Rattle.std.proofs.lemmas.List.FromFn.{length-range_with_len, get_or-range_with_len, take-map-range_with_len, fill_by_all}
 use Rattle.std.proofs.ByRecursion.{All-from_get_or, All-get_or, all_shuffled}
 use Rattle.std.proofs.lemmas.List.{get_or-set_same, get_or-set_other, get_or_default, length-set, ext_get_or, take-map, drop-map, map-id, length-take-le, get_or-take}
 use Rattle.std.proofs.lemmas.List.Sorted.{IsPermutation-keeps}
@@ -10,17 +10,15 @@ use Rattle.std.proofs.lemmas.Bool.{cases_eq, cases_lt, eq-eqb, ne_eqb, lt-ltb, l
 use Rattle.std.proofs.lemmas.Bool.Decides.{nat_tests}
 use Rattle.store.specs.declared.records.Record.{Record}
 use Rattle.store.specs.Rows.{blank, last_place, replaced, unmarked}
-use Rattle.store.specs.Slots.{laid, link_to, Below, Apart, SlotNexts, SlotTops}
+use Rattle.store.specs.Slots.{laid, link_to, later_slot, Below, Apart, SlotNexts, SlotTops}
 use Rattle.store.specs.Links.{chain_at, in_chain}
 use Rattle.store.specs.StoreModel.{pruned}
-use Rattle.store.proofs.Marks.{unmarked_pruned}
+use Rattle.store.proofs.Marks.{unmarked_replaced}
 use Rattle.store.proofs.Places.{place_agree}
-use Rattle.store.proofs.SlotWalks.{laid_at, laid_long, link_apart}
+use Rattle.store.proofs.SlotWalks.{laid_at}
+use Rattle.store.specs.ChainsRow.{laid_long}
 
 -- The slots below n, in order
-
-pub counting_more : (n : ℕ) → range_with_len 0 (n + 1) ≡ range_with_len 0 n ++ (n ∷ [])
-counting_more n = sym (map-id (range_with_len 0 (n + 1))) ∙ map-range_with_len_more (λ x. x) 0 n n (omega arith) ∙ ap (λ xs. xs ++ (n ∷ [])) (map-id (range_with_len 0 n))
 
 pub counting_below : (n : ℕ) → Below (length (range_with_len 0 n)) (range_with_len 0 n)
 counting_below n i h =
@@ -36,6 +34,13 @@ counting_apart n i j h =
     let e = get_or-range_with_len 0 n i 0 (omega arith) in
     let f = get_or-range_with_len 0 n j 0 (omega arith) in
     omega (arith, h.2)
+
+pub counting_front : (n m : ℕ) → n ≤ m → take n (range_with_len 0 m) ≡ range_with_len 0 n
+counting_front n m h = ap (take n) (sym (map-id (range_with_len 0 m))) ∙ take-map-range_with_len (λ x. x) 0 m n h ∙ map-id (range_with_len 0 n)
+
+-- records in slots that are their places
+pub laid_counting : (rs : List Record) → laid rs (range_with_len 0 (length rs)) ≡ rs
+laid_counting rs = sym (fill_by_all (λ o. get_or rs o blank) rs (length rs) blank refl (λ k l. refl))
 
 -- A record written to its slot
 
@@ -106,9 +111,8 @@ below_shuffled n os ps s below i h =
 
 -- Slots that were closed up: os before and ps afterwards, with k of the first n left
 
-module _ (rs : List Record) (os ps : List ℕ) (gs : List Bool) (h n k t : ℕ)
-    (marked : take (length (take n (laid rs os))) gs ≡ replaced h (take n (laid rs os)))
-    (front : take k ps ≡ unmarked gs (take n os)) (behind : take t (drop k ps) ≡ take t (drop n os)) where
+module _ (rs : List Record) (os ps : List ℕ) (h n k t : ℕ)
+    (front : take k ps ≡ unmarked (replaced h (take n (laid rs os))) (take n os)) (behind : take t (drop k ps) ≡ take t (drop n os)) where
   laid_unmarked : (fs : List Bool) (qs : List ℕ) → laid rs (unmarked fs qs) ≡ unmarked fs (laid rs qs)
   laid_unmarked [] qs = refl
   laid_unmarked (f ∷ fs) [] = refl
@@ -120,11 +124,12 @@ module _ (rs : List Record) (os ps : List ℕ) (gs : List Bool) (h n k t : ℕ)
 
   pub closed_front : take k (laid rs ps) ≡ pruned h (take n (laid rs os))
   closed_front =
+      let marks = replaced h (take n (laid rs os)) in
       take-map (λ o. get_or rs o blank) k ps
       ∙ ap (laid rs) front
-      ∙ laid_unmarked gs (take n os)
-      ∙ ap (unmarked gs) (sym (take-map (λ o. get_or rs o blank) n os))
-      ∙ unmarked_pruned h gs (take n (laid rs os)) marked
+      ∙ laid_unmarked marks (take n os)
+      ∙ ap (unmarked marks) (sym (take-map (λ o. get_or rs o blank) n os))
+      ∙ unmarked_replaced h (take n (laid rs os))
 
   pub closed_behind : take t (drop k (laid rs ps)) ≡ take t (drop n (laid rs os))
   closed_behind =
@@ -134,20 +139,30 @@ module _ (rs : List Record) (os ps : List ℕ) (gs : List Bool) (h n k t : ℕ)
       ∙ sym (take-map (λ o. get_or rs o blank) t (drop n os))
       ∙ ap (take t) (sym (drop-map (λ o. get_or rs o blank) n os))
 
--- A record is replaced exactly when the walk that stops at it stops before it
+-- A record is replaced exactly when a later one is found
 
-pub later_link : (os : List ℕ) (i last : ℕ) → Apart os → i < length os → last ≤ length os →
-    not (eqb (link_to os (max (i + 1) last)) (link_to os (i + 1))) ≡ ltb (i + 1) last
-later_link os i last apart h l =
+none_some : (x : ℕ) → ◌≡◌ {A = Option ℕ} None (Some x) → ⊥
+none_some x e = search rules
+
+some_same : (x y : ℕ) → Some x ≡ Some y → x ≡ y
+some_same x y e = search rules
+
+pub is_later : (os : List ℕ) (n last : ℕ) → is_some (later_slot os n last) ≡ ltb n last
+is_later os n last = elim (ltb n last) as (λ b. is_some (cond b (Some (get_or os (last - 1) 0)) None) ≡ b) [ true ↦ refl | false ↦ refl ]
+
+pub later_none : (os : List ℕ) (n last : ℕ) → None ≡ later_slot os n last → last ≤ n
+later_none os n last e =
     ⊎_elim
-    (λ m.
-    let top : max (i + 1) last ≡ last = omega arith in
-    let other : link_to os last ≡ link_to os (i + 1) → ⊥ = λ e. let same = link_apart os apart last (i + 1) l (omega arith) e in omega arith in
-    rw (top, ne_eqb (link_to os last) (link_to os (i + 1)) other) (sym (lt-ltb (i + 1) last m)))
-    (λ m.
-    let top : max (i + 1) last ≡ i + 1 = omega arith in
-    rw (top, eq-eqb (link_to os (i + 1)) (link_to os (i + 1)) refl) (sym (le-ltb (i + 1) last m)))
-    (cases_lt (i + 1) last)
+    (λ h. absurd (none_some (get_or os (last - 1) 0) (e ∙ rw (lt-ltb n last h))))
+    (λ h. h)
+    (cases_lt n last)
+
+pub later_found : (os : List ℕ) (n last slot : ℕ) → Some slot ≡ later_slot os n last → (n < last) × (slot ≡ get_or os (last - 1) 0)
+later_found os n last slot e =
+    ⊎_elim
+    (λ h. (h, some_same slot (get_or os (last - 1) 0) (e ∙ rw (lt-ltb n last h))))
+    (λ h. absurd (none_some slot (sym (e ∙ rw (le-ltb n last h)))))
+    (cases_lt n last)
 
 pub place_taken : (p : Record → Bool) (rs : List Record) (n : ℕ) → n ≤ length rs → last_place p (take n rs) (length (take n rs)) ≡ last_place p rs n
 place_taken p rs n h = rw (length-take-le n rs h) (place_agree p (take n rs) rs n (λ k l. get_or-take n rs k blank l))

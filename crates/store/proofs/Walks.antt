@@ -1,10 +1,9 @@
 -- Chains through a row of records: the walk along one, and one link more.
-use Rattle.std.specs.Prelude.{◌≡◌, ℕ, suc, ◌+◌, ◌-◌, ◌%◌, ◌<◌, ◌≤◌, true, false, List, length, ◌==◌, nat_le, slice_index, slice_index_or, slice_set, refl}
-use Rattle.std.proofs.Common.{sym, ap, subst, ◌∙◌, ⊎_elim, add-one, arith, below_more}
-use Rattle.std.proofs.lemmas.List.{get_or-set_same, get_or-set_other}
-use Rattle.std.proofs.lemmas.Bool.{and_parts, eqb-true, eq-eqb, ne_eqb, cases_eq}
+use Rattle.std.specs.Prelude.{◌≡◌, ℕ, ◌+◌, ◌-◌, ◌%◌, ◌<◌, ◌≤◌, true, false, List, length, ◌==◌, nat_le, slice_index_or, refl}
+use Rattle.std.proofs.Common.{sym, ap, subst, ◌∙◌, arith}
+use Rattle.std.proofs.lemmas.Bool.{and_parts, eqb-true, eq-eqb}
 use Rattle.store.specs.declared.records.Record.{Record}
-use Rattle.store.specs.Links.{chain_at, in_chain, Nexts, Tops}
+use Rattle.store.specs.Links.{chain_at, in_chain}
 use Rattle.store.specs.Rows.{last_place}
 use Rattle.store.specs.StoreModel.{matches}
 use Rattle.store.proofs.Places.{place_le, place_down, place_passes, place_through}
@@ -50,23 +49,3 @@ module _ (item at : ℕ) (rs : List Record) (n : ℕ) (row : n ≤ length rs) wh
         walk_from (place - 1) after (omega arith)
         (sym (place_down (matches item at) rs place d false h (omega arith) e) ∙ w.same)
         (l ∙ ap (λ b. last_place (in_chain b) rs (place - 1)) (w.here h))
-
-    pub walk_end : place ≤ 0 → 0 ≡ last_place (matches item at) rs n
-    walk_end h = let z : 0 ≡ place = omega arith in ap (last_place (matches item at) rs) z ∙ w.same
-
--- one record more is linked
-pub nexts_more : (rs : List Record) (ns : List ℕ) (n v : ℕ) → n < length ns → Nexts rs ns n →
-    v ≡ last_place (in_chain (chain_at rs n)) rs n → Nexts rs (slice_set ns n v) (n + 1)
-nexts_more rs ns n v h all e =
-    below_more (λ i. slice_index (slice_set ns n v) i ≡ last_place (in_chain (chain_at rs i)) rs i) n
-    (λ i l. get_or-set_other ns n i v 0 (λ q. omega arith) ∙ all i l)
-    (get_or-set_same ns n v 0 h ∙ e)
-
-pub tops_more : (rs : List Record) (hs : List ℕ) (n : ℕ) → 64 ≤ length hs → Tops rs hs n →
-    Tops rs (slice_set hs (chain_at rs n) (n + 1)) (n + 1)
-tops_more rs hs n h all b l =
-    rw (add-one n)
-    (⊎_elim
-    (λ e. rw (eq-eqb (chain_at rs n) b e, e) (get_or-set_same hs b (suc n) 0 (omega arith)))
-    (λ e. rw (ne_eqb (chain_at rs n) b e) (get_or-set_other hs (chain_at rs n) b (suc n) 0 (λ q. e (sym q)) ∙ all b l))
-    (cases_eq (chain_at rs n) b))

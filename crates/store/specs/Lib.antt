@@ -1,4 +1,5 @@
 pub mod StoreModel
+pub mod Counts
 pub mod Rows
 pub mod Links
 pub mod Slots

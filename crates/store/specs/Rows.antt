@@ -2,14 +2,15 @@
 use Rattle.std.specs.Prelude.{ℕ, zero, suc, Bool, cond, List, [], ◌∷◌, map, take, drop, pos, Some, None, Option, ◌==◌, slice_index_or}
 use Rattle.words.specs.declared.changes.Change.TheVariants.{Set}
 use Rattle.store.specs.declared.records.Record.{Record}
+use Rattle.store.specs.Counts.{Counts}
 use Rattle.store.specs.StoreModel.{StoreModel, a_record, a_store, undated, matches, some}
 
 abbrev pub blank : Record
 blank = a_record 0 0 (Set (pos 0))
 
--- The first n records are sealed, and the t after them are staged.
-abbrev pub row_model : List Record → ℕ → ℕ → ℕ → ℕ → StoreModel
-row_model rs c v n t = a_store c v (take n rs) (map undated (take t (drop n rs)))
+-- The first records are sealed, and those after them are staged.
+abbrev pub row_model : List Record → Counts → StoreModel
+row_model rs q = a_store q.capacity q.version (take q.sealed rs) (map undated (take q.staged (drop q.sealed rs)))
 
 -- Whether a record is of version v.
 abbrev pub of_version : ℕ → Record → Bool

@@ -1,5 +1,5 @@
 -- Records that stand in slots, and a list of the slots that gives the records their order.
-use Rattle.std.specs.Prelude.{◌≡◌, ℕ, zero, suc, ◌+◌, ◌<◌, List, map, length, slice_index, slice_index_or}
+use Rattle.std.specs.Prelude.{◌≡◌, ℕ, zero, suc, ◌+◌, ◌-◌, ◌<◌, cond, List, Option, Some, None, map, length, nat_lt, slice_index, slice_index_or}
 use Rattle.store.specs.declared.records.Record.{Record}
 use Rattle.store.specs.Rows.{blank, last_place}
 use Rattle.store.specs.Links.{chain_at, in_chain}
@@ -8,10 +8,19 @@ use Rattle.store.specs.Links.{chain_at, in_chain}
 abbrev pub laid : List Record → List ℕ → List Record
 laid rs os = map (λ o. slice_index_or rs o blank) os
 
--- The link to a place in that order: one more than the slot there, or 0 for no place.
+-- How many records stand up to a place, with the one there.
+abbrev pub after : Option ℕ → ℕ
+after None = 0
+after (Some i) = i + 1
+
+-- The link to the last of that many records: one more than its slot, or 0 for none.
 abbrev pub link_to : List ℕ → ℕ → ℕ
 link_to os zero = 0
 link_to os (suc i) = slice_index os i + 1
+
+-- The slot of the last of that many records, where those are more than n.
+abbrev pub later_slot : List ℕ → ℕ → ℕ → Option ℕ
+later_slot os n last = cond (nat_lt n last) (Some (slice_index os (last - 1))) None
 
 -- Each slot is below n.
 abbrev pub Below : ℕ → List ℕ → Type 0

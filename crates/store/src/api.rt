@@ -1,9 +1,13 @@
 // The interface of a store.
-ghost use Rattle.std.specs.Prelude.{◌≡◌, length};
+ghost use Rattle.std.specs.Prelude.{◌≡◌, length, is_ok};
 ghost use Rattle.words.specs.Writes.{a_write};
 ghost use Rattle.store.specs.StoreModel.{StoreModel, Bounded, has_space, read_at, staged_on, sealed_up, dropped, pruned_to};
 
 use words::changes::Change;
+
+/// A store holds as many records as it can.
+#[derive(Clone, Copy, PartialEq, Eq, Debug)]
+pub struct NoSpace;
 
 /// A store keeps the changes of items in versions, so that an item can be read as an earlier version has it.
 pub trait Store {
@@ -30,9 +34,9 @@ pub trait Store {
     fn read(&self, item: u32, at: u32) -> Option<i32>
         ensures { result ≡ read_at (model self.now) item at };
 
-    /// Adds a change to the version that is being made, and answers true; or alters nothing where there is no space.
-    fn stage(&mut self, item: u32, change: Change) -> bool
-        ensures answer { result ≡ has_space (model self.old) }
+    /// Adds a change to the version that is being made; or alters nothing where there is no space.
+    fn stage(&mut self, item: u32, change: Change) -> Result<(), NoSpace>
+        ensures answer { is_ok result ≡ has_space (model self.old) }
         ensures after { model self.new ≡ staged_on (model self.old) (a_write item change) };
 
     /// Makes the staged changes the next version, also when there are none. At version 268,435,455 it alters nothing.

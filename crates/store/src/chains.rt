@@ -4,8 +4,9 @@ ghost use Rattle.store.specs.StoreModel.{every, at_most};
 ghost use Rattle.store.specs.Rows.{of_version};
 ghost use Rattle.store.specs.Slots.{laid, Below, Apart, SlotNexts, SlotTops};
 
-use crate::links::CHAINS;
 use crate::records::Record;
+use crate::slots::CHAINS;
+use crate::tally::Tally;
 
 pub mod ops;
 
@@ -15,23 +16,18 @@ pub struct Chains {
     records: Vec<Record>,
     // The slots of the sealed records in the order of sealing, then those of the staged ones, then the free ones.
     slots: Vec<u16>,
-    // At the slot of each sealed record, the link to the one before it in its chain: one more than its slot, or 0.
+    // At the slot of each sealed record, the link to the one before it in its chain.
     next: Vec<u16>,
     heads: [u16; CHAINS],
-    sealed: usize,
-    staged: usize,
-    version: u32,
+    tally: Tally,
+    ghost whole: { length slots.items ≡ tally.capacity },
     ghost memory: { length slots.items ≤ length records.items },
     ghost links: { length slots.items ≤ length next.items },
     ghost below: { Below (length slots.items) slots.items },
     ghost apart: { Apart slots.items },
-    ghost linked: { SlotNexts (laid records.items slots.items) slots.items next.items sealed },
-    ghost topped: { SlotTops (laid records.items slots.items) slots.items heads sealed },
-    ghost room: { length slots.items ≤ length (laid records.items slots.items) },
-    ghost small: { length slots.items ≤ 4096 },
-    ghost counts: { sealed + staged ≤ length slots.items },
-    ghost high: { version ≤ 268435455 },
-    ghost past: { every (at_most version) (take sealed (laid records.items slots.items)) ≡ true },
+    ghost linked: { SlotNexts (laid records.items slots.items) slots.items next.items tally.sealed },
+    ghost topped: { SlotTops (laid records.items slots.items) slots.items heads tally.sealed },
+    ghost past: { every (at_most tally.version) (take tally.sealed (laid records.items slots.items)) ≡ true },
     // Staged records already bear the next version.
-    ghost coming: { every (of_version (version + 1)) (take staged (drop sealed (laid records.items slots.items))) ≡ true },
+    ghost coming: { every (of_version (tally.version + 1)) (take tally.staged (drop tally.sealed (laid records.items slots.items))) ≡ true },
 }

@@ -4,6 +4,7 @@ ghost use Rattle.store.specs.StoreModel.{every, at_most};
 ghost use Rattle.store.specs.Rows.{of_version};
 
 use crate::records::Record;
+use crate::tally::Tally;
 
 pub mod ops;
 
@@ -11,15 +12,9 @@ pub mod ops;
 #[derive(Drop)]
 pub struct Journal {
     records: Vec<Record>,
-    capacity: usize,
-    sealed: usize,
-    staged: usize,
-    version: u32,
-    ghost room: { capacity ≤ length records.items },
-    ghost small: { capacity ≤ 4096 },
-    ghost counts: { sealed + staged ≤ capacity },
-    ghost high: { version ≤ 268435455 },
-    ghost past: { every (at_most version) (take sealed records.items) ≡ true },
+    tally: Tally,
+    ghost room: { tally.capacity ≤ length records.items },
+    ghost past: { every (at_most tally.version) (take tally.sealed records.items) ≡ true },
     // Staged records already bear the next version.
-    ghost coming: { every (of_version (version + 1)) (take staged (drop sealed records.items)) ≡ true },
+    ghost coming: { every (of_version (tally.version + 1)) (take tally.staged (drop tally.sealed records.items)) ≡ true },
 }

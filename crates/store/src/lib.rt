@@ -8,7 +8,6 @@ pub mod known;
 pub mod laws;
 pub(crate) mod links;
 pub(crate) mod moves;
-pub(crate) mod prunes;
 pub mod records;
-pub(crate) mod rows;
 pub(crate) mod slots;
+pub(crate) mod tally;

@@ -1,68 +1,65 @@
-// Chains through a row of records: one for each of 64 parts of the items, from its last record back to its first.
-// A link is a place, counted from 1, or 0 at the end of its chain.
-ghost use Rattle.std.specs.Prelude.{◌≡◌, ◌≤◌, length, take};
-ghost use Rattle.store.specs.Links.{Nexts, Tops};
+// Records in slots with the links of their chains.
+ghost use Rattle.std.specs.Prelude.{◌≡◌, ◌-◌, ◌%◌, ◌<◌, ◌≤◌, ◌++◌, length, take, drop};
+ghost use Rattle.store.specs.Links.{chain_at};
 ghost use Rattle.store.specs.Rows.{last_place, replaced};
+ghost use Rattle.store.specs.Slots.{laid, after, link_to, later_slot, SlotNexts, SlotTops};
 ghost use Rattle.store.specs.StoreModel.{matches};
 
-use crate::records::Record;
-use crate::rows::is_match;
+use crate::slots::{CHAINS, InSlots};
 
-pub(crate) const CHAINS: usize = 64;
+/// Records in slots, of which the first `count` are linked.
+#[derive(Clone, Copy)]
+pub(crate) struct Linked<'a> {
+    pub(crate) row: InSlots<'a>,
+    pub(crate) next: &'a [u16],
+    pub(crate) heads: &'a [u16; CHAINS],
+    pub(crate) count: usize,
+    ghost within: { count ≤ length row.slots.now },
+    ghost links: { length row.slots.now ≤ length next.now },
+    ghost linked: { SlotNexts (laid row.records.now row.slots.now) row.slots.now next.now count },
+    ghost topped: { SlotTops (laid row.records.now row.slots.now) row.slots.now heads.now count },
+}
 
-// The place of the last record of the item with a version of at most `at`, by the item's chain.
-pub(crate) fn find_linked(
-    row: &[Record],
-    next: &[u16],
-    heads: &[u16; CHAINS],
-    item: u32,
-    at: u32,
-) -> usize
-    requires room { length row.now ≤ length next.now }
-    requires linked { Nexts row.now next.now (length row.now) }
-    requires topped { Tops row.now heads.now (length row.now) }
-    ensures { result ≡ last_place (matches item at) row.now (length row.now) }
-{
-    let mut place = heads[item as usize % CHAINS] as usize;
-    while place > 0 {
-        if is_match(row[place - 1], item, at) {
-            return place;
+impl Linked<'_> {
+    // The link to the record at the place, or to none.
+    fn link_to(&self, place: Option<usize>) -> u16
+        requires { after place ≤ self.now.count }
+        ensures { result ≡ link_to self.now.row.slots.now (after place) }
+    {
+        match place {
+            Some(place) => self.row.slots[place] + 1,
+            None => 0,
         }
-        place = next[place - 1] as usize;
     }
-    0
-}
 
-// Links the records, each to the one before it in its chain. The heads are clear before.
-pub(crate) fn link_up(row: &[Record], next: &mut [u16], heads: &mut [u16; CHAINS])
-    requires small { length row.now ≤ 4096 }
-    requires room { length row.now ≤ length next.old }
-    requires clear { Tops row.now heads.old 0 }
-    ensures linked { Nexts row.now next.new (length row.now) }
-    ensures topped { Tops row.now heads.new (length row.now) }
-{
-    for i in 0..row.len() {
-        let chain = row[i].item as usize % CHAINS;
-        next[i] = heads[chain];
-        heads[chain] = (i + 1) as u16;
+    // The slot of the last record of the item with a version of at most `at`, if that stands behind the place.
+    // The record at the place is of the item's chain, which is followed no further.
+    pub(crate) fn find_behind(&self, place: Option<usize>, item: u32, at: u32) -> Option<usize>
+        requires within { after place ≤ self.now.count }
+        requires chained { 0 < after place → chain_at (laid self.now.row.records.now self.now.row.slots.now) (after place - 1) ≡ item % 64 }
+        ensures { result ≡ later_slot self.now.row.slots.now (after place) (last_place (matches item at) (laid self.now.row.records.now self.now.row.slots.now) self.now.count) }
+    {
+        let stop = self.link_to(place);
+        let mut link = self.heads[item as usize % CHAINS];
+        while link != stop {
+            let slot = (link - 1) as usize;
+            if self.row.records[slot].is_match(item, at) {
+                return Some(slot);
+            }
+            link = self.next[slot];
+        }
+        None
     }
-}
 
-// Marks each record that a prune to `to` removes: a later one of its item has a version of at most `to`.
-pub(crate) fn mark_replaced(
-    row: &[Record],
-    next: &[u16],
-    heads: &[u16; CHAINS],
-    to: u32,
-    gone: &mut [bool],
-)
-    requires room { length row.now ≤ length next.now }
-    requires linked { Nexts row.now next.now (length row.now) }
-    requires topped { Tops row.now heads.now (length row.now) }
-    requires marks { length row.now ≤ length gone.old }
-    ensures { take (length row.now) gone.new ≡ replaced to row.now }
-{
-    for i in 0..row.len() {
-        gone[i] = find_linked(row, next, heads, row[i].item, to) > i + 1;
+    // Marks each linked record that a prune to `to` removes: a later one of its item has a version of at most `to`.
+    pub(crate) fn mark_replaced(&self, to: u32, gone: &mut [bool])
+        requires { self.now.count ≤ length gone.old }
+        ensures { gone.new ≡ replaced to (take self.now.count (laid self.now.row.records.now self.now.row.slots.now)) ++ drop self.now.count gone.old }
+    {
+        for i in 0..self.count {
+            let slot = self.row.slots[i] as usize;
+            let item = self.row.records[slot].item;
+            gone[i] = self.find_behind(Some(i), item, to).is_some();
+        }
     }
 }

@@ -1,19 +1,17 @@
 // What chains do.
-ghost use Rattle.std.specs.Prelude.{◌≡◌, ◌-◌, ◌%◌, ◌<◌, ◌≤◌, min, max, length, take, vec_len, MatchResult};
-ghost use Rattle.store.specs.ChainsModel.{chains_row, chains_model};
-ghost use Rattle.store.specs.Links.{chain_at};
-ghost use Rattle.store.specs.Rows.{last_place, replaced};
-ghost use Rattle.store.specs.Slots.{link_to};
-ghost use Rattle.store.specs.StoreModel.{fresh, matches};
+ghost use Rattle.std.specs.Prelude.{◌≡◌, ◌≤◌, min, length, vec_len, MatchResult};
+ghost use Rattle.store.specs.ChainsModel.{chains_model};
 ghost use Rattle.store.specs.ChainsRow.{chains_bounded};
+ghost use Rattle.store.specs.Slots.{laid, SlotNexts, SlotTops};
+ghost use Rattle.store.specs.StoreModel.{fresh};
 
 use super::Chains;
-use crate::api::Store;
-use crate::links::CHAINS;
-use crate::moves::close_up;
-use crate::records::{LAST_VERSION, MOST_RECORDS, Record};
-use crate::rows::{is_match, value_at};
-use crate::slots::{link_slots, number_slots};
+use crate::api::{NoSpace, Store};
+use crate::links::Linked;
+use crate::moves::compact;
+use crate::records::{MOST_RECORDS, Record};
+use crate::slots::{CHAINS, InSlots};
+use crate::tally::Tally;
 use std::alloc::{AllocFailed, Global};
 use words::changes::Change;
 
@@ -24,7 +22,7 @@ impl Chains {
         ensures { MatchResult result (λ c. chains_model c ≡ fresh (min (vec_len records) 4096)) (λ e. e.value ≡ records) }
     {
         let capacity = records.len().min(MOST_RECORDS);
-        let Ok(slots) = number_slots(heap, capacity) else {
+        let Ok(slots) = (0..capacity as u16).collect(heap) else {
             return Err(AllocFailed { value: records });
         };
         let Ok(next) = vec![in heap; 0u16; capacity] else {
@@ -35,51 +33,24 @@ impl Chains {
             slots,
             next,
             heads: [0; CHAINS],
-            sealed: 0,
-            staged: 0,
-            version: 0,
+            tally: Tally::new(capacity),
         })
     }
 
-    // The link to a place in the order of the records.
-    fn link_to(&self, place: usize) -> u16
-        requires { place ≤ self.now.sealed }
-        ensures { result ≡ link_to self.now.slots.items place }
+    // The sealed records with their links.
+    fn sealed(&self) -> Linked<'_>
+        ensures records { result.row.records.now ≡ self.now.records.items }
+        ensures slots { result.row.slots.now ≡ self.now.slots.items }
+        ensures count { result.count ≡ self.now.tally.sealed }
     {
-        if place == 0 {
-            return 0;
-        }
-        self.slots[place - 1] + 1
-    }
-
-    // The link to the last record of the item with a version of at most `at`, as far as it stands after the place.
-    // The record at the place is of the item's chain, which is followed no further.
-    fn find_after(&self, place: usize, item: u32, at: u32) -> u16
-        requires within { place ≤ self.now.sealed }
-        requires chained { 0 < place → chain_at (chains_row self.now) (place - 1) ≡ item % 64 }
-        ensures { result ≡ link_to self.now.slots.items (max place (last_place (matches item at) (chains_row self.now) self.now.sealed)) }
-    {
-        let stop = self.link_to(place);
-        let mut link = self.heads[item as usize % CHAINS];
-        while link != stop {
-            let slot = (link - 1) as usize;
-            if is_match(self.records[slot], item, at) {
-                return link;
-            }
-            link = self.next[slot];
-        }
-        stop
-    }
-
-    // Marks each sealed record that a prune to `to` removes: a later one of its item has a version of at most `to`.
-    fn mark_replaced(&self, to: u32, gone: &mut [bool])
-        requires { self.now.sealed ≤ length gone.old }
-        ensures { take self.now.sealed gone.new ≡ replaced to (chains_model self.now).sealed }
-    {
-        for i in 0..self.sealed {
-            let slot = self.slots[i] as usize;
-            let item = self.records[slot].item;
-            gone[i] = self.find_after(i + 1, item, to) != self.link_to(i + 1);
+        Linked {
+            row: InSlots {
+                records: self.records.as_slice(),
+                slots: self.slots.as_slice(),
+            },
+            next: self.next.as_slice(),
+            heads: &self.heads,
+            count: self.tally.sealed,
         }
     }
 }
@@ -90,7 +61,7 @@ impl Store for Chains {
     ghost bounded = { λ s. chains_bounded s };
 
     fn version(&self) -> u32 {
-        self.version
+        self.tally.version
     }
 
     fn capacity(&self) -> u32 {
@@ -98,68 +69,64 @@ impl Store for Chains {
     }
 
     fn sealed_count(&self) -> u32 {
-        self.sealed as u32
+        self.tally.sealed as u32
     }
 
     fn staged_count(&self) -> u32 {
-        self.staged as u32
+        self.tally.staged as u32
     }
 
     fn read(&self, item: u32, at: u32) -> Option<i32> {
-        value_at(
-            self.records.as_slice(),
-            self.find_after(0, item, at) as usize,
-        )
+        let slot = self.sealed().find_behind(None, item, at)?;
+        self.records[slot].value()
     }
 
-    fn stage(&mut self, item: u32, change: Change) -> bool {
-        let used = self.sealed + self.staged;
-        if used >= self.slots.len() {
-            return false;
-        }
-        let slot = self.slots[used] as usize;
+    fn stage(&mut self, item: u32, change: Change) -> Result<(), NoSpace> {
+        let place = self.tally.stage()?;
+        let slot = self.slots[place] as usize;
         self.records[slot] = Record {
-            version: self.version + 1,
+            version: self.tally.version + 1,
             item,
             change,
         };
-        self.staged += 1;
-        true
+        Ok(())
     }
 
     fn seal(&mut self) {
-        if self.version < LAST_VERSION {
-            let end = self.sealed + self.staged;
-            link_slots(
-                self.records.as_slice(),
-                self.slots.as_slice(),
-                &mut self.next,
-                &mut self.heads,
-                self.sealed,
-                end,
-            );
-            self.sealed = end;
-            self.staged = 0;
-            self.version += 1;
-        }
+        let from = self.tally.sealed;
+        self.tally.seal();
+        let row = InSlots {
+            records: self.records.as_slice(),
+            slots: self.slots.as_slice(),
+        };
+        row.link(
+            self.next.as_mut_slice(),
+            &mut self.heads,
+            from,
+            self.tally.sealed,
+        );
     }
 
     fn drop_staged(&mut self) {
-        self.staged = 0;
+        self.tally.drop_staged();
     }
 
     fn prune(&mut self, to: u32) {
         let mut gone = [false; MOST_RECORDS];
-        self.mark_replaced(to, &mut gone);
-        self.sealed = close_up(&mut self.slots, self.sealed, self.staged, &gone);
+        self.sealed().mark_replaced(to, &mut gone);
+        let used = self.tally.sealed + self.tally.staged;
+        let left = compact(&mut self.slots, &gone[0..used]);
+        self.tally.keep(left);
         self.heads = [0; CHAINS];
-        link_slots(
-            self.records.as_slice(),
-            self.slots.as_slice(),
-            &mut self.next,
+        let row = InSlots {
+            records: self.records.as_slice(),
+            slots: self.slots.as_slice(),
+        };
+        row.link(
+            self.next.as_mut_slice(),
             &mut self.heads,
             0,
-            self.sealed,
+            self.tally.sealed,
         );
     }
 }

@@ -1,15 +1,19 @@
 // What a journal does.
-ghost use Rattle.std.specs.Prelude.{◌≡◌, min, vec_len};
-ghost use Rattle.store.specs.StoreModel.{fresh};
+ghost use Rattle.std.specs.Prelude.{◌≡◌, ◌≤◌, ◌++◌, find, reverse, min, length, drop, vec_len};
+ghost use Rattle.std.specs.List.{range_with_len};
+ghost use Rattle.store.specs.Rows.{replaced};
+ghost use Rattle.store.specs.StoreModel.{fresh, matches};
 ghost use Rattle.store.specs.JournalModel.{journal_model};
 ghost use Rattle.store.specs.JournalRow.{journal_bounded};
 
 use super::Journal;
-use crate::api::Store;
-use crate::links::{CHAINS, link_up};
-use crate::prunes::prune_row;
-use crate::records::{LAST_VERSION, MOST_RECORDS, Record};
-use crate::rows::{find, value_at};
+use crate::api::{NoSpace, Store};
+use crate::links::Linked;
+use crate::moves::compact;
+use crate::records::{MOST_RECORDS, Record};
+use crate::slots::{CHAINS, InSlots};
+use crate::tally::Tally;
+use std::array;
 use words::changes::Change;
 
 impl Journal {
@@ -20,12 +24,49 @@ impl Journal {
         let capacity = records.len().min(MOST_RECORDS);
         Journal {
             records,
-            capacity,
-            sealed: 0,
-            staged: 0,
-            version: 0,
+            tally: Tally::new(capacity),
         }
     }
+}
+
+// The last record of the item with a version of at most `at`.
+fn latest(row: &[Record], item: u32, at: u32) -> Option<Record>
+    ensures { result ≡ find (matches item at) (reverse row.now) }
+{
+    let mut back = row.iter().rev().copied();
+    back.find(|record| record.is_match(item, at))
+}
+
+// All slots in order.
+fn number_slots() -> [u16; MOST_RECORDS]
+    ensures { result ≡ range_with_len 0 4096 }
+{
+    array::from_fn(|i| i as u16)
+}
+
+// Marks each record of the row that a prune to `to` removes. The records are linked for this call alone, in slots that are
+// their places, so that each is compared with those of its own chain.
+fn mark_replaced(row: &[Record], to: u32, gone: &mut [bool])
+    requires small { length row.now ≤ 4096 }
+    requires marks { length row.now ≤ length gone.old }
+    ensures { gone.new ≡ replaced to row.now ++ drop (length row.now) gone.old }
+{
+    let slots = number_slots();
+    let mut next = [0; MOST_RECORDS];
+    let mut heads = [0; CHAINS];
+    let count = row.len();
+    let row = InSlots {
+        records: row,
+        slots: &slots[0..count],
+    };
+    row.link(&mut next, &mut heads, 0, count);
+    let linked = Linked {
+        row,
+        next: &next,
+        heads: &heads,
+        count,
+    };
+    linked.mark_replaced(to, gone);
 }
 
 impl Store for Journal {
@@ -34,68 +75,48 @@ impl Store for Journal {
     ghost bounded = { λ s. journal_bounded s };
 
     fn version(&self) -> u32 {
-        self.version
+        self.tally.version
     }
 
     fn capacity(&self) -> u32 {
-        self.capacity as u32
+        self.tally.capacity as u32
     }
 
     fn sealed_count(&self) -> u32 {
-        self.sealed as u32
+        self.tally.sealed as u32
     }
 
     fn staged_count(&self) -> u32 {
-        self.staged as u32
+        self.tally.staged as u32
     }
 
     fn read(&self, item: u32, at: u32) -> Option<i32> {
-        let row = &self.records.as_slice()[0..self.sealed];
-        value_at(row, find(row, item, at))
+        latest(&self.records.as_slice()[0..self.tally.sealed], item, at)?.value()
     }
 
-    fn stage(&mut self, item: u32, change: Change) -> bool {
-        let used = self.sealed + self.staged;
-        if used >= self.capacity {
-            return false;
-        }
-        self.records[used] = Record {
-            version: self.version + 1,
+    fn stage(&mut self, item: u32, change: Change) -> Result<(), NoSpace> {
+        let place = self.tally.stage()?;
+        self.records[place] = Record {
+            version: self.tally.version + 1,
             item,
             change,
         };
-        self.staged += 1;
-        true
+        Ok(())
     }
 
     fn seal(&mut self) {
-        if self.version < LAST_VERSION {
-            self.sealed += self.staged;
-            self.staged = 0;
-            self.version += 1;
-        }
+        self.tally.seal();
     }
 
     fn drop_staged(&mut self) {
-        self.staged = 0;
+        self.tally.drop_staged();
     }
 
-    // Links the records for this call alone, so that each is compared with those of its own chain.
     fn prune(&mut self, to: u32) {
-        let mut next = [0; MOST_RECORDS];
-        let mut heads = [0; CHAINS];
-        link_up(
-            &self.records.as_slice()[0..self.sealed],
-            &mut next,
-            &mut heads,
-        );
-        self.sealed = prune_row(
-            &mut self.records,
-            self.sealed,
-            self.staged,
-            &next,
-            &heads,
-            to,
-        );
+        let sealed = self.tally.sealed;
+        let mut gone = [false; MOST_RECORDS];
+        mark_replaced(&self.records.as_slice()[0..sealed], to, &mut gone);
+        let left = compact(&mut self.records, &gone[0..sealed + self.tally.staged]);
+        self.tally.keep(left);
     }
 }

@@ -1,14 +1,14 @@
+use Rattle.store.proofs.Compact.{compacting_long, compacting_kept, compacting_left, compacting_all}
 use Rattle.std.proofs.Common.{arith}
-use Rattle.store.proofs.Compact.{compacting_long, compacting_kept, compacting_left, compacting_all, compacting_rest}
 use Rattle.store.proofs.moves.compact.Goals as goal
-use Rattle.store.proofs.moves.compact.Goals.{then-not-gone-i, else-not-gone-i}
+use Rattle.store.proofs.moves.compact.Goals.{then-not-is_gone, else-not-is_gone}
 
 pub loop-i-preserved : goal.loop-i-preserved
 loop-i-preserved g c =
-    elim c.if-not-gone-i.branch [
-      | then-not-gone-i w ↦ rw (w.items-is, w.end-is)
-          (compacting_kept c.loop-i.invariant (omega arith) _ w.swap.ensures.items w.if-not-gone-i.true)
-      | else-not-gone-i w ↦ rw (w.items-is, w.end-is) (compacting_left c.loop-i.invariant (omega arith) w.if-not-gone-i.false)
+    elim c.if-not-is_gone.branch [
+      | then-not-is_gone w ↦ rw (w.items-is, w.end-is)
+          (compacting_kept c.loop-i.invariant (omega arith) _ w.swap.ensures.items w.if-not-is_gone.true)
+      | else-not-is_gone w ↦ rw (w.items-is, w.end-is) (compacting_left c.loop-i.invariant (omega arith) w.if-not-is_gone.false)
     ]
 
 pub returns : goal.returns
@@ -17,7 +17,6 @@ returns g c =
     record {
       bound = omega arith;
       front = compacting_all inv (omega arith);
-      rest = compacting_rest inv (omega arith);
       shuffled = inv.shuffled;
-      len = omega (arith, compacting_long inv, c.loop-i.items.ok.0, c.args.items.now.ok.0);
+      within = omega (arith, compacting_long inv, inv.row);
     }

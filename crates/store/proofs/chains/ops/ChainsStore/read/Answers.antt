@@ -1,16 +1,17 @@
-use Rattle.std.proofs.Common.{ap, ◌∙◌, arith}
-use Rattle.store.specs.Rows.{at_place}
-use Rattle.store.specs.StoreModel.{matches, value_in}
-use Rattle.store.proofs.ChainsChanges.{link_read_inside, value_linked}
+use Rattle.std.proofs.Common.{sym, ◌∙◌}
+use Rattle.store.specs.StoreModel.{matches}
+use Rattle.store.proofs.ChainsChanges.{none_read, value_read, same_found}
 use Rattle.store.proofs.chains.ops.ChainsStore.read.Goals as goal
 
-pub value_at-requires : goal.value_at-requires
-value_at-requires c =
-    let s = c.args.self.now in
-    omega (arith, link_read_inside s (matches c.args.item c.args.at) c.find_after.result c.find_after.ensures, c.as_slice.ensures.len, s.records.ok.0)
+pub returns-in_err-slot : goal.returns-in_err-slot
+returns-in_err-slot c =
+    let p = matches c.args.item c.args.at in
+    let same = same_found c.args.self.now c.sealed.result p c.sealed.ensures.records c.sealed.ensures.slots c.sealed.ensures.count in
+    c.from_residual.ensures ∙ none_read c.args.self.now p (sym c.in_err-slot.was ∙ c.find_behind.ensures ∙ same)
 
 pub returns : goal.returns
 returns c =
-    c.value_at.ensures
-    ∙ ap (λ xs. value_in (at_place xs c.find_after.result)) c.as_slice.ensures.value
-    ∙ value_linked c.args.self.now (matches c.args.item c.args.at) c.find_after.result c.find_after.ensures
+    let p = matches c.args.item c.args.at in
+    let same = same_found c.args.self.now c.sealed.result p c.sealed.ensures.records c.sealed.ensures.slots c.sealed.ensures.count in
+    c.value.ensures
+    ∙ value_read c.args.self.now p c.in_ok-slot.slot (sym c.in_ok-slot.was ∙ c.find_behind.ensures ∙ same) c.index.result.now c.index.ensures

@@ -1,23 +1,32 @@
-use Rattle.std.proofs.Common.{arith}
-use Rattle.store.proofs.ChainsChanges.{both_owed, shown_nexts, shown_tops}
+use Rattle.std.proofs.Common.{◌≡◌, ◌++◌, length, get_or, take, drop, sym, ap, ◌∙◌, subst, arith}
+use Rattle.std.proofs.lemmas.List.{take_at}
+use Rattle.store.specs.ChainsModel.{chains_row}
 use Rattle.store.specs.ChainsRow.{chains_sound}
-use Rattle.store.specs.RowChanges.{row_sealed, sealed_sound}
+use Rattle.store.specs.Counts.{Counts, counts}
+use Rattle.store.specs.Rows.{row_model}
+use Rattle.store.specs.RowChanges.{RowSound, tally_sound, row_sealed, sealed_sound, sealed_capacity}
+use Rattle.store.proofs.ChainsChanges.{both_owed}
 use Rattle.store.proofs.chains.ops.ChainsStore.seal.Goals as goal
 
 pub invariant_of-self : goal.invariant_of-self
 invariant_of-self c =
     let s = c.args.self.now in
-    let done = c.link_slots.ensures in
-    both_owed
+    let done = c.link.ensures in
+    let next : take c.args.self.now.next.len (c.link.new.next ++ drop (length c.link.new.next) c.args.self.now.next.items) ≡ c.link.new.next =
+    take_at c.link.new.next _ s.next.len (omega (arith, c.link.auto.next, ap length c.as_mut_slice.ensures.value, s.next.ok.0)) in
+    both_owed {q = counts c.seal.new.self}
     (record {
+      whole = s.whole ∙ sym (ap Counts.capacity c.seal.ensures ∙ sealed_capacity _ _ (tally_sound s.tally) (chains_sound s));
       memory = s.memory;
-      links = omega (arith, s.links, done.long);
+      links = omega (arith, s.links, c.link.auto.next, ap length c.as_mut_slice.ensures.value, ap length next);
       below = s.below;
       apart = s.apart;
-      linked = shown_nexts _ _ _ _ _ c.as_slice.ensures.value c.as_slice-then-self-lt-LAST_VERSION.ensures.value _ done.linked;
-      topped = shown_tops _ _ _ _ _ c.as_slice.ensures.value c.as_slice-then-self-lt-LAST_VERSION.ensures.value c.link_slots.new.heads done.topped;
+      linked = λ i l. ap (λ ns. get_or ns (get_or s.slots.items i 0) 0) next ∙ (rw (c.as_slice.ensures.value, c.as_slice-2.ensures.value) at done.linked) i l;
+      topped = rw (c.as_slice.ensures.value, c.as_slice-2.ensures.value) at done.topped;
     })
-    (sealed_sound _ _ _ _ _ (chains_sound s) (omega arith))
+    (subst (RowSound (chains_row s)) (sym c.seal.ensures) (sealed_sound _ _ (tally_sound s.tally) (chains_sound s)))
 
-pub returns-then-self-lt-LAST_VERSION : goal.returns-then-self-lt-LAST_VERSION
-returns-then-self-lt-LAST_VERSION c = row_sealed _ _ _ _ _ (chains_sound c.args.self.now) (omega arith)
+pub returns : goal.returns
+returns c =
+    let s = c.args.self.now in
+    ap (row_model (chains_row s)) c.seal.ensures ∙ row_sealed _ _ (tally_sound s.tally) (chains_sound s)

@@ -1,26 +1,32 @@
-use Rattle.std.proofs.Common.{◌≡◌, length, arith, rules}
-use Rattle.std.proofs.lemmas.List.{get_or-replicate}
-use Rattle.store.specs.JournalRow.{journal_sound}
-use Rattle.store.specs.RowChanges.{owed, row_pruned, pruned_sound}
+use Rattle.std.proofs.Common.{sym, ap, ◌∙◌, subst}
+use Rattle.std.proofs.lemmas.List.Sorted.{length_permutation}
+use Rattle.store.specs.Rows.{row_model}
+use Rattle.store.specs.RowChanges.{RowSound, owed}
+use Rattle.store.proofs.JournalChanges.{marks_shown, left_staged, left_model, left_sound}
 use Rattle.store.proofs.journal.ops.JournalStore.prune.Goals as goal
 
-pub link_up-requires : goal.link_up-requires
-link_up-requires c = record {
-  small = search rules;
-  room = search rules;
-  clear = λ b l. get_or-replicate 64 b 0 0 l;
-}
+pub keep-requires-clause-staged : goal.keep-requires-clause-staged
+keep-requires-clause-staged c =
+    let j = c.args.self.now in
+    let done = c.compact-left.ensures in
+    left_staged j c.args.to c.compact-left.result _ c.compact-left.new.items.items
+    (marks_shown j c.args.to c.as_slice.result.now _ c.as_slice.ensures.value c.mark_replaced.ensures)
+    (length_permutation _ _ done.shuffled) done.within done.front
 
 pub invariant_of-self : goal.invariant_of-self
 invariant_of-self c =
-    let done = c.prune_row-self.ensures in
-    let long : length c.prune_row-self.new.records.items ≡ length c.args.self.now.records.items =
-    omega (arith, c.prune_row-self.new.records.ok.0, c.args.self.now.records.ok.0) in
-    owed (pruned_sound _ _ _ _ _ (journal_sound c.args.self.now) c.args.to _ _ done.bound long done.front done.back)
+    let j = c.args.self.now in
+    let done = c.compact-left.ensures in
+    owed (subst (RowSound c.compact-left.new.items.items) (sym c.keep.ensures)
+    (left_sound j c.args.to c.compact-left.result _ c.compact-left.new.items.items
+    (marks_shown j c.args.to c.as_slice.result.now _ c.as_slice.ensures.value c.mark_replaced.ensures)
+    (length_permutation _ _ done.shuffled) done.within done.front))
 
 pub returns : goal.returns
 returns c =
-    let done = c.prune_row-self.ensures in
-    let long : length c.prune_row-self.new.records.items ≡ length c.args.self.now.records.items =
-    omega (arith, c.prune_row-self.new.records.ok.0, c.args.self.now.records.ok.0) in
-    row_pruned _ _ _ _ _ (journal_sound c.args.self.now) c.args.to _ _ done.bound long done.front done.back
+    let j = c.args.self.now in
+    let done = c.compact-left.ensures in
+    ap (row_model c.compact-left.new.items.items) c.keep.ensures
+    ∙ left_model j c.args.to c.compact-left.result _ c.compact-left.new.items.items
+    (marks_shown j c.args.to c.as_slice.result.now _ c.as_slice.ensures.value c.mark_replaced.ensures)
+    (length_permutation _ _ done.shuffled) done.within done.front
