@@ -61,12 +61,6 @@ module _ (s : Linked) (item at floor : ℕ) (inside : floor ≤ s.count) (chaine
       place_inside : f.place - 1 < length s.row.slots.now
       place_inside = let within = s.within in omega (arith, place_on, place_within)
 
-      pub find_slot : (0 < link) × (link - 1 < length s.row.slots.now)
-      find_slot =
-          let h = place_on in
-          let low = s.row.below (f.place - 1) place_inside in
-          (omega (arith, f.is, link_here s.row.slots.now f.place (omega arith)), omega (arith, place_slot))
-
       -- the record that is read is the one at the place
       place_record : get_or (linked_row s) (f.place - 1) blank ≡ get_or s.row.records.now (link - 1) blank
       place_record =

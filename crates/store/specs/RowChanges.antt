@@ -117,9 +117,6 @@ module _ (rs : List Record) (q : Counts) (k : CountsSound q) (s : RowSound rs q)
   pub row_open : q.sealed + q.staged < q.capacity → has_space (row_model rs q) ≡ true
   row_open h = lt-ltb 0 _ (omega (arith, row_space))
 
-  pub row_unstaged : (w : Write) → q.capacity ≤ q.sealed + q.staged → row_model rs q ≡ staged_on (row_model rs q) w
-  row_unstaged w h = rw (row_full h)
-
   pub row_staged : (i : ℕ) (x : Change) → q.sealed + q.staged < q.capacity →
       row_model (slice_set rs (q.sealed + q.staged) (a_record (q.version + 1) i x)) (one_staged q) ≡ staged_on (row_model rs q) (a_write i x)
   row_staged i x h =
