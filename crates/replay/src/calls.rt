@@ -2,9 +2,10 @@
 ghost use Rattle.std.specs.Prelude.{◌≡◌, length};
 ghost use Rattle.replay.specs.Calls.{answer_of, after_call};
 
-use store::api::Store;
+use store::api::{NoSpace, Store};
 use words::changes::Change;
 
+// A call as a value, since one list of them, drawn at random, is made at two stores: a closure would hold one store's type.
 /// A call that a store answers or that changes it.
 #[derive(Clone, Copy)]
 pub enum Call {
@@ -19,7 +20,7 @@ pub enum Call {
 #[derive(Clone, Copy, PartialEq, Eq, Debug)]
 pub enum Answer {
     Value(Option<i32>),
-    Staged(bool),
+    Staged(Result<(), NoSpace>),
     Done,
 }
 

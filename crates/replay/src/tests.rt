@@ -1,10 +1,10 @@
 // Both stores, driven by the same calls.
 use crate::calls::{Answer, apply, count};
-use crate::random::Random;
+use crate::random::{Source, call};
 use crate::versions::put_version;
 use std::process::Abort;
 use std::test::Fail;
-use store::api::Store;
+use store::api::{NoSpace, Store};
 use store::chains::Chains;
 use store::journal::Journal;
 use store::records::Record;
@@ -26,7 +26,7 @@ struct Seen {
 
 // Makes the same calls at both stores, and compares every answer and count.
 fn drive<A: Store, B: Store>(rt: &impl Abort, a: &mut A, b: &mut B, seed: u32, items: u32) -> Seen {
-    let mut random = Random::new(seed);
+    let mut source = Source::new(seed);
     let mut seen = Seen {
         declined: 0,
         removing: 0,
@@ -35,18 +35,18 @@ fn drive<A: Store, B: Store>(rt: &impl Abort, a: &mut A, b: &mut B, seed: u32, i
     let mut was_full = false;
     for _ in 0..6000 {
         let before = count(a);
-        let call = random.call(items.max(1), a.version());
-        let answer = apply(a, call);
-        assert_eq!(rt; answer, apply(b, call));
+        let next = call(&mut source, items.max(1), a.version());
+        let answer = apply(a, next);
+        assert_eq!(rt; answer, apply(b, next));
         let after = count(a);
         assert_eq!(rt; after, count(b));
         match answer {
-            Answer::Staged(true) => {
+            Answer::Staged(Ok(())) => {
                 if was_full {
                     seen.reused = seen.reused.wrapping_add(1);
                 }
             }
-            Answer::Staged(false) => {
+            Answer::Staged(Err(NoSpace)) => {
                 was_full = true;
                 seen.declined = seen.declined.wrapping_add(1);
             }
@@ -88,13 +88,12 @@ fn smallest_stores_answer_alike(rt: HostRuntime) -> Result<(), Fail> {
 
 // Item 1 is set to 10, then item 2 to 5, then item 1 is removed, each in a version of its own.
 fn prune_three_versions<S: Store>(rt: &impl Abort, store: &mut S) {
-    for change in [
+    for (item, change) in [
         (1, Change::Set(10)),
         (2, Change::Set(5)),
         (1, Change::Remove),
     ] {
-        let (item, change) = change;
-        assert!(rt; put_version(store, &[Write { item, change }]));
+        assert_eq!(rt; put_version(store, &[Write { item, change }]), Ok(()));
     }
     store.prune(2);
     assert_eq!(rt; store.sealed_count(), 3);

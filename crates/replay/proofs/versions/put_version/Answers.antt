@@ -1,4 +1,4 @@
-use Rattle.std.proofs.Common.{sym, ◌∙◌, arith}
+use Rattle.std.proofs.Common.{sym, arith}
 use Rattle.std.proofs.lemmas.Bool.{false≢true}
 use Rattle.replay.proofs.Puts.{putting_none, putting_more, putting_full, putting_dropped, putting_all, putting_sealed, putting_reads}
 use Rattle.replay.proofs.versions.put_version.Goals as goal
@@ -6,10 +6,10 @@ use Rattle.replay.proofs.versions.put_version.Goals as goal
 pub loop-write-init : goal.loop-write-init
 loop-write-init g c = putting_none _ c.args.writes.now
 
-pub returns-then-not-stage : goal.returns-then-not-stage
-returns-then-not-stage g c =
+pub returns-in-Err : goal.returns-in-Err
+returns-in-Err g c =
     let inv = c.loop-write.invariant in
-    let none = sym c.stage.ensures.answer ∙ c.if-not-stage.true in
+    let none = sym c.in-Err.ensures.answer in
     let full = putting_full inv (omega arith) none in
     record {
       answer = sym full;
@@ -19,7 +19,7 @@ returns-then-not-stage g c =
 
 pub loop-write-preserved : goal.loop-write-preserved
 loop-write-preserved g c =
-    putting_more c.loop-write.invariant _ _ (omega arith) (sym c.stage.ensures.answer ∙ c.if-not-stage.false) c.stage.ensures.after
+    putting_more c.loop-write.invariant _ _ (omega arith) (sym c.in_default.ensures.answer) c.stage.ensures.after
 
 pub returns : goal.returns
 returns g c =
