@@ -1,1 +1,2 @@
 mod SpeltLaws
+mod TableLaws

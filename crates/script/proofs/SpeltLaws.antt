@@ -1,9 +1,7 @@
 -- Words spelt, one after another.
-use Rattle.std.proofs.Common.{◌≡◌, ℕ, false, eqb, List, [], ◌∷◌, ◌++◌, length, Some, None, Option, sym, refl, ap, ◌∙◌}
+use Rattle.std.proofs.Common.{◌≡◌, ℕ, List, [], ◌∷◌, ◌++◌, Some, None, Option, sym, refl, ap, ◌∙◌}
 use Rattle.std.proofs.lemmas.List.{append_assoc}
-use Rattle.std.proofs.lemmas.Bool.{true≢false}
 use Rattle.text.specs.Numbers.{hex_word_of}
-use Rattle.text.specs.Split.{led}
 use Rattle.script.specs.Parts.{consed, hex_words}
 
 -- Words that stand before others.
@@ -16,7 +14,5 @@ prefixed_more done v (Some vs) = ap Some (append_assoc done (v ∷ []) vs)
 prefixed_more done v None = refl
 
 -- One word more.
-pub hex_more : (done word : List ℕ) (more : List (List ℕ)) (v : ℕ) → eqb (length word) 0 ≡ false → hex_word_of word ≡ Some v →
-    prefixed (done ++ (v ∷ [])) (hex_words more) ≡ prefixed done (hex_words (led word more))
-hex_more done [] more v e f = absurd (true≢false e)
-hex_more done (b ∷ word) more v e f = prefixed_more done v (hex_words more) ∙ ap (λ o. prefixed done (consed o (hex_words more))) (sym f)
+pub hex_more : (done word : List ℕ) (more : List (List ℕ)) (v : ℕ) → hex_word_of word ≡ Some v → prefixed (done ++ (v ∷ [])) (hex_words more) ≡ prefixed done (hex_words (word ∷ more))
+hex_more done word more v f = prefixed_more done v (hex_words more) ∙ ap (λ o. prefixed done (consed o (hex_words more))) (sym f)

@@ -1,10 +1,11 @@
 -- The calls at a site, by the words after the call's name.
 use Rattle.std.specs.Prelude.{ℕ, cond, List, Some, None, Ok, Result}
+use Rattle.text.specs.Split.{none_in}
 use Rattle.script.specs.declared.faults.Fault.{Fault}
 use Rattle.script.specs.declared.verbs.Verb.{Verb}
 use Rattle.script.specs.declared.verbs.Verb.TheVariants as verb
 use Rattle.script.specs.Values.{DeedValue, Begin, Read, Look, Write, Post, GiveUp, LetGo, Outcome, Deliver, Step, Report, Page, Take, Trim, Prune, Crash, Wake, Show, then, told}
-use Rattle.script.specs.Parts.{none_in, end_in, name_first, number_first, change_first, source_in, buffer_in}
+use Rattle.script.specs.Parts.{end_in, name_first, number_first, change_first, source_in, buffer_in}
 
 -- A name and nothing else; a number and nothing else.
 abbrev pub name_in : List (List ℕ) → Result (List ℕ) Fault

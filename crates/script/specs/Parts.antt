@@ -1,6 +1,7 @@
 -- Single arguments of a line, by the words that are still to be read.
-use Rattle.std.specs.Prelude.{ℕ, Bool, true, false, cond, ◌&&◌, List, [], ◌∷◌, ℤ, is_some, Some, None, Ok, Err, codes, Option, Result}
+use Rattle.std.specs.Prelude.{ℕ, Bool, cond, List, [], ◌∷◌, ℤ, is_some, Some, None, Ok, Err, codes, Option, Result}
 use Rattle.std.specs.Borrow.{Bor}
+use Rattle.std.specs.List.{list_all}
 use Rattle.std.specs.Str.{bytes_eq}
 use Rattle.words.specs.declared.changes.Change.{Change}
 use Rattle.words.specs.declared.changes.Change.TheVariants.{Set, Remove}
@@ -10,11 +11,6 @@ use Rattle.text.specs.Split.{words}
 use Rattle.script.specs.declared.faults.Fault.{Fault}
 use Rattle.script.specs.declared.faults.Fault.TheVariants.{NoNumber, NoName, NoValue, NoWords, MoreWords}
 use Rattle.script.specs.Values.{SourceValue, Named, Spelt, BufferValue, a_buffer, then}
-
--- Whether there are no words.
-abbrev pub none_in : List (List ℕ) → Bool
-none_in [] = true
-none_in (w ∷ ws) = false
 
 -- Nothing may be left.
 abbrev pub end_in : List (List ℕ) → Result (Unit {0}) Fault
@@ -42,6 +38,10 @@ at_rest p = (p.0, words p.1.now)
 abbrev pub pair_value : Bor (List ℕ) × Bor (List ℕ) → List ℕ × List (List ℕ)
 pair_value p = (p.0.now, words p.1.now)
 
+-- What was read, where nothing is left after it.
+abbrev pub only : {A : Type 0} → Result (A × Bor (List ℕ)) Fault → Result A Fault
+only read = then read (λ p. then (end_in (words p.1.now)) (λ _. Ok p.0))
+
 -- A change, and the words after it.
 abbrev pub value_then : Option ℤ → List (List ℕ) → Result (Change × List (List ℕ)) Fault
 value_then None ws = Err NoValue
@@ -53,8 +53,7 @@ change_first (w ∷ ws) = cond (bytes_eq w (codes "gone")) (Ok (Remove, ws)) (va
 
 -- Whether each is a word of eight hexadecimal digits.
 abbrev pub all_spelt : List (List ℕ) → Bool
-all_spelt [] = true
-all_spelt (w ∷ ws) = is_some (hex_word_of w) && all_spelt ws
+all_spelt ws = list_all (λ w. is_some (hex_word_of w)) ws
 
 -- Words to hand in: a name and nothing after it, or words, at least one.
 abbrev pub source_in : List (List ℕ) → Result SourceValue Fault

@@ -1,41 +1,42 @@
 -- The names of the calls at a site.
-use Rattle.std.specs.Prelude.{ℕ, cond, List, Some, None, codes, Option}
+use Rattle.std.specs.Prelude.{ℕ, cond, List, [], ◌∷◌, map, Some, None, codes, Option}
+use Rattle.std.specs.Borrow.{Bor}
 use Rattle.std.specs.Str.{bytes_eq}
 use Rattle.script.specs.declared.verbs.Verb.{Verb}
 use Rattle.script.specs.declared.verbs.Verb.TheVariants.{Begin, Read, Look, Write, Post, GiveUp, LetGo, Outcome, Deliver, Step, Report, Page, Take, Trim, Prune, Crash, Wake, Show}
 
-abbrev pub draft_verb : List ℕ → Option Verb
-draft_verb w =
-    cond (bytes_eq w (codes "begin")) (Some Begin)
-    (cond (bytes_eq w (codes "read")) (Some Read)
-    (cond (bytes_eq w (codes "look")) (Some Look)
-    (cond (bytes_eq w (codes "write")) (Some Write)
-    (cond (bytes_eq w (codes "post")) (Some Post)
-    (cond (bytes_eq w (codes "give_up")) (Some GiveUp)
-    (cond (bytes_eq w (codes "let_go")) (Some LetGo)
-    (cond (bytes_eq w (codes "outcome")) (Some Outcome) None)))))))
+-- What a word names in a table, whose first row of that name counts.
+abbrev pub named : {A : Type 0} → List (List ℕ × A) → List ℕ → Option A
+named [] w = None
+named (row ∷ rows) w = cond (bytes_eq w row.0) (Some row.1) (named rows w)
 
-abbrev pub place_verb : List ℕ → Option Verb
-place_verb w =
-    cond (bytes_eq w (codes "deliver")) (Some Deliver)
-    (cond (bytes_eq w (codes "step")) (Some Step)
-    (cond (bytes_eq w (codes "report")) (Some Report)
-    (cond (bytes_eq w (codes "page")) (Some Page)
-    (cond (bytes_eq w (codes "take")) (Some Take) None))))
+-- The rows of a table, by their bytes.
+abbrev pub row_values : {A : Type 0} → List (Bor (List ℕ) × A) → List (List ℕ × A)
+row_values rows = map (λ row. (row.0.now, row.1)) rows
 
-abbrev pub site_verb : List ℕ → Option Verb
-site_verb w =
-    cond (bytes_eq w (codes "trim")) (Some Trim)
-    (cond (bytes_eq w (codes "prune")) (Some Prune)
-    (cond (bytes_eq w (codes "crash")) (Some Crash)
-    (cond (bytes_eq w (codes "wake")) (Some Wake)
-    (cond (bytes_eq w (codes "show")) (Some Show) None))))
-
--- The first of two that is there.
-abbrev pub either : {A : Type 0} → Option A → Option A → Option A
-either (Some a) o = Some a
-either None o = o
+-- All calls, each under its name.
+abbrev pub verbs : List (List ℕ × Verb)
+verbs =
+    (codes "begin", Begin) ∷
+    (codes "read", Read) ∷
+    (codes "look", Look) ∷
+    (codes "write", Write) ∷
+    (codes "post", Post) ∷
+    (codes "give_up", GiveUp) ∷
+    (codes "let_go", LetGo) ∷
+    (codes "outcome", Outcome) ∷
+    (codes "deliver", Deliver) ∷
+    (codes "step", Step) ∷
+    (codes "report", Report) ∷
+    (codes "page", Page) ∷
+    (codes "take", Take) ∷
+    (codes "trim", Trim) ∷
+    (codes "prune", Prune) ∷
+    (codes "crash", Crash) ∷
+    (codes "wake", Wake) ∷
+    (codes "show", Show) ∷
+    []
 
 -- The call that a word names.
 abbrev pub verb_of : List ℕ → Option Verb
-verb_of w = either (draft_verb w) (either (place_verb w) (site_verb w))
+verb_of w = named verbs w

@@ -7,26 +7,23 @@ ghost use Rattle.script.specs.Deeds.{name_in, number_in, read_in, write_in, post
 use crate::asks::Deed;
 use crate::faults::Fault;
 use crate::parts::{
-    is_blank, parse_buffer, parse_change, parse_end, parse_name, parse_number, parse_source,
+    parse_buffer, parse_change, parse_end, parse_name, parse_number, parse_only, parse_source,
 };
 use crate::verbs::Verb;
+use text::split::is_blank;
 
 // A name and nothing else.
 fn parse_only_name<'a>(text: &'a [u8]) -> Result<&'a [u8], Fault>
     ensures { told bytes result ≡ name_in (words text.now) }
 {
-    let (name, rest) = parse_name(text)?;
-    parse_end(rest)?;
-    Ok(name)
+    parse_only(text, parse_name)
 }
 
 // A number and nothing else.
 fn parse_only_number(text: &[u8]) -> Result<u32, Fault>
     ensures { result ≡ number_in (words text.now) }
 {
-    let (number, rest) = parse_number(text)?;
-    parse_end(rest)?;
-    Ok(number)
+    parse_only(text, parse_number)
 }
 
 fn parse_read<'a>(text: &'a [u8]) -> Result<Deed<'a>, Fault>
@@ -42,8 +39,7 @@ fn parse_write<'a>(text: &'a [u8]) -> Result<Deed<'a>, Fault>
 {
     let (name, rest) = parse_name(text)?;
     let (item, rest) = parse_number(rest)?;
-    let (change, rest) = parse_change(rest)?;
-    parse_end(rest)?;
+    let change = parse_only(rest, parse_change)?;
     Ok(Deed::Write(name, item, change))
 }
 

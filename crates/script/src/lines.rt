@@ -8,8 +8,8 @@ ghost use Rattle.script.specs.Parts.{at_rest};
 use crate::asks::{Ask, LogKind, StoreKind};
 use crate::deeds::parse_deed;
 use crate::faults::Fault;
-use crate::parts::{parse_end, parse_number, parse_source};
-use crate::verbs::parse_verb;
+use crate::parts::{parse_number, parse_only, parse_source};
+use crate::verbs::{find_named, parse_verb};
 use text::names::same;
 use text::numbers::decimal;
 use text::split::next_word;
@@ -17,35 +17,29 @@ use text::split::next_word;
 fn parse_group<'a>(text: &'a [u8]) -> Result<Ask<'a>, Fault>
     ensures { told ask_value result ≡ group_in (words text.now) }
 {
-    let (sites, rest) = parse_number(text)?;
-    parse_end(rest)?;
+    let sites = parse_only(text, parse_number)?;
     Ok(Ask::Group(sites))
 }
 
 fn parse_store<'a>(text: &'a [u8]) -> Result<(StoreKind, &'a [u8]), Fault>
     ensures { told at_rest result ≡ store_first (words text.now) }
 {
+    let table: [(&[u8], StoreKind); 2] = [
+        (b"journal", StoreKind::Journal),
+        (b"chains", StoreKind::Chains),
+    ];
     let (word, rest) = next_word(text);
-    if same(word, b"journal") {
-        return Ok((StoreKind::Journal, rest));
-    }
-    if same(word, b"chains") {
-        return Ok((StoreKind::Chains, rest));
-    }
-    Err(Fault::NoStore)
+    let store = find_named(&table, word).ok_or(Fault::NoStore)?;
+    Ok((store, rest))
 }
 
 fn parse_log<'a>(text: &'a [u8]) -> Result<(LogKind, &'a [u8]), Fault>
     ensures { told at_rest result ≡ log_first (words text.now) }
 {
+    let table: [(&[u8], LogKind); 2] = [(b"flat", LogKind::Flat), (b"packed", LogKind::Packed)];
     let (word, rest) = next_word(text);
-    if same(word, b"flat") {
-        return Ok((LogKind::Flat, rest));
-    }
-    if same(word, b"packed") {
-        return Ok((LogKind::Packed, rest));
-    }
-    Err(Fault::NoLog)
+    let log = find_named(&table, word).ok_or(Fault::NoLog)?;
+    Ok((log, rest))
 }
 
 fn parse_site<'a>(text: &'a [u8]) -> Result<Ask<'a>, Fault>
@@ -55,8 +49,7 @@ fn parse_site<'a>(text: &'a [u8]) -> Result<Ask<'a>, Fault>
     let (store, rest) = parse_store(rest)?;
     let (records, rest) = parse_number(rest)?;
     let (log, rest) = parse_log(rest)?;
-    let (room, rest) = parse_number(rest)?;
-    parse_end(rest)?;
+    let room = parse_only(rest, parse_number)?;
     Ok(Ask::Site {
         site,
         store,
@@ -78,9 +71,7 @@ fn parse_at<'a>(site: u32, text: &'a [u8]) -> Result<Ask<'a>, Fault>
     ensures { told ask_value result ≡ at_in site (words text.now) }
 {
     let (word, rest) = next_word(text);
-    let Some(verb) = parse_verb(word) else {
-        return Err(Fault::NoVerb);
-    };
+    let verb = parse_verb(word).ok_or(Fault::NoVerb)?;
     let deed = parse_deed(verb, rest)?;
     Ok(Ask::At { site, deed })
 }

@@ -3,26 +3,18 @@ ghost use Rattle.std.specs.Prelude.{◌≡◌, IfOk, vec_items};
 ghost use Rattle.text.specs.Split.{words};
 ghost use Rattle.std.specs.Option.{option_map};
 ghost use Rattle.script.specs.Values.{told, bytes, source_value, buffer_value};
-ghost use Rattle.script.specs.Parts.{at_rest, pair_value, none_in, end_in, name_first, number_first, change_first, all_spelt, source_in, room_first, label_in, buffer_in, hex_words};
+ghost use Rattle.script.specs.Parts.{at_rest, pair_value, end_in, only, name_first, number_first, change_first, all_spelt, source_in, room_first, label_in, buffer_in, hex_words};
 
 use crate::asks::{Buffer, Source};
 use crate::faults::Fault;
 use std::alloc::{AllocError, Global};
 use text::names::{is_name, same};
 use text::numbers::{decimal, hex_word, signed};
-use text::split::next_word;
+use text::split::{Words, is_blank, next_word};
 use words::changes::Change;
 
 /// The room of a buffer whose line says none.
 pub const ROOM: u32 = 40;
-
-/// Whether the text has no words.
-pub fn is_blank(text: &[u8]) -> bool
-    ensures { result ≡ none_in (words text.now) }
-{
-    let (word, _) = next_word(text);
-    word.is_empty()
-}
 
 // Nothing may be left.
 pub(crate) fn parse_end(text: &[u8]) -> Result<(), Fault>
@@ -33,6 +25,19 @@ pub(crate) fn parse_end(text: &[u8]) -> Result<(), Fault>
     } else {
         Err(Fault::MoreWords)
     }
+}
+
+// What the closure reads of the text, where nothing is left after it.
+pub(crate) fn parse_only<'a, T: Drop, F: FnOnce(&'a [u8]) -> Result<(T, &'a [u8]), Fault>>(
+    text: &'a [u8],
+    parse: F,
+) -> Result<T, Fault>
+    requires { F.IsAlwaysCallable parse }
+    ensures { (read : _) × F.post parse text.entry read × (result ≡ only read) }
+{
+    let (value, rest) = parse(text)?;
+    parse_end(rest)?;
+    Ok(value)
 }
 
 // A name, and the text after it.
@@ -52,10 +57,8 @@ pub(crate) fn parse_number<'a>(text: &'a [u8]) -> Result<(u32, &'a [u8]), Fault>
     ensures { told at_rest result ≡ number_first (words text.now) }
 {
     let (word, rest) = next_word(text);
-    match decimal(word) {
-        Some(number) => Ok((number, rest)),
-        None => Err(Fault::NoNumber),
-    }
+    let number = decimal(word).ok_or(Fault::NoNumber)?;
+    Ok((number, rest))
 }
 
 // A change: a value, or `gone` for a removal; and the text after it.
@@ -66,27 +69,15 @@ pub(crate) fn parse_change<'a>(text: &'a [u8]) -> Result<(Change, &'a [u8]), Fau
     if same(word, b"gone") {
         return Ok((Change::Remove, rest));
     }
-    match signed(word) {
-        Some(value) => Ok((Change::Set(value), rest)),
-        None => Err(Fault::NoValue),
-    }
+    let value = signed(word).ok_or(Fault::NoValue)?;
+    Ok((Change::Set(value), rest))
 }
 
 // Whether each word of the text is one of eight hexadecimal digits.
 fn are_spelt(text: &[u8]) -> bool
     ensures { result ≡ all_spelt (words text.now) }
 {
-    let mut rest = text;
-    loop {
-        let (word, after) = next_word(rest);
-        if word.is_empty() {
-            return true;
-        }
-        if hex_word(word).is_none() {
-            return false;
-        }
-        rest = after;
-    }
+    Words(text).all(|word| hex_word(word).is_some())
 }
 
 // Words to hand in, to the end of the line.
@@ -126,8 +117,7 @@ fn parse_label<'a>(text: &'a [u8]) -> Result<Option<&'a [u8]>, Fault>
     if !same(word, b"as") {
         return Err(Fault::MoreWords);
     }
-    let (name, rest) = parse_name(rest)?;
-    parse_end(rest)?;
+    let name = parse_only(rest, parse_name)?;
     Ok(Some(name))
 }
 
@@ -145,16 +135,11 @@ pub fn read_words(heap: Global, text: &[u8]) -> Result<Option<Vec<u32>>, AllocEr
     ensures { IfOk result (λ o. option_map vec_items o ≡ hex_words (words text.now)) }
 {
     let mut values = Vec::new(heap);
-    let mut rest = text;
-    loop {
-        let (word, after) = next_word(rest);
-        if word.is_empty() {
-            return Ok(Some(values));
-        }
+    for word in Words(text) {
         let Some(value) = hex_word(word) else {
             return Ok(None);
         };
         values.push(value)?;
-        rest = after;
     }
+    Ok(Some(values))
 }
