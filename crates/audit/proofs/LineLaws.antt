@@ -1,9 +1,7 @@
 -- Lines, one word after another.
-use Rattle.std.proofs.Common.{◌≡◌, ℕ, false, eqb, List, [], ◌∷◌, ◌++◌, length, Some, Ok, Err, Result, sym, refl, ap, ◌∙◌}
+use Rattle.std.proofs.Common.{◌≡◌, ℕ, List, [], ◌∷◌, ◌++◌, Some, Ok, Err, Result, sym, refl, ap, ◌∙◌}
 use Rattle.std.proofs.lemmas.List.{append_assoc}
-use Rattle.std.proofs.lemmas.Bool.{true≢false}
 use Rattle.text.specs.Numbers.{hex_word_of}
-use Rattle.text.specs.Split.{led}
 use Rattle.audit.specs.declared.lines.Reason.{Reason}
 use Rattle.audit.specs.Lines.{consed, hex_words}
 
@@ -21,7 +19,5 @@ prefixed_more done w (Ok ws) = ap Ok (append_assoc done (w ∷ []) ws)
 prefixed_more done w (Err e) = refl
 
 -- one word more
-pub hex_more : (done word : List ℕ) (more : List (List ℕ)) (w : ℕ) → eqb (length word) 0 ≡ false → hex_word_of word ≡ Some w →
-    prefixed (done ++ (w ∷ [])) (hex_words more) ≡ prefixed done (hex_words (led word more))
-hex_more done [] more w e f = absurd (true≢false e)
-hex_more done (b ∷ word) more w e f = prefixed_more done w (hex_words more) ∙ ap (λ o. prefixed done (consed o (hex_words more))) (sym f)
+pub hex_more : (done word : List ℕ) (more : List (List ℕ)) (w : ℕ) → hex_word_of word ≡ Some w → prefixed (done ++ (w ∷ [])) (hex_words more) ≡ prefixed done (hex_words (word ∷ more))
+hex_more done word more w f = prefixed_more done w (hex_words more) ∙ ap (λ o. prefixed done (consed o (hex_words more))) (sym f)

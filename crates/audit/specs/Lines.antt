@@ -1,15 +1,10 @@
 -- What the lines of a saved list say, by their words.
-use Rattle.std.specs.Prelude.{◌≡◌, ℕ, Bool, true, false, cond, List, [], ◌∷◌, Some, None, Ok, Err, vec_items, codes, Option, Result, Vec}
+use Rattle.std.specs.Prelude.{◌≡◌, ℕ, Bool, false, cond, List, [], ◌∷◌, Some, None, Ok, Err, vec_items, codes, Option, Result, Vec}
 use Rattle.std.specs.declared.alloc.Global.{Global}
 use Rattle.std.specs.Str.{bytes_eq}
 use Rattle.text.specs.Numbers.{decimal_of, hex_word_of}
 use Rattle.audit.specs.declared.lines.Reason.{Reason}
 use Rattle.audit.specs.declared.lines.Reason.TheVariants.{NoGroup, NoWord, NoMemory}
-
--- Whether there are no words.
-abbrev pub none_in : List (List ℕ) → Bool
-none_in [] = true
-none_in (w ∷ ws) = false
 
 -- The number of sites, if a number is there.
 abbrev pub sites_in : Option ℕ → Result ℕ Reason

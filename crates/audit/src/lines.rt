@@ -1,14 +1,14 @@
 // The lines of a saved list: `group N` first, then one message a line.
 ghost use Rattle.std.specs.Prelude.{◌≡◌};
 ghost use Rattle.text.specs.Split.{words};
-ghost use Rattle.audit.specs.Lines.{none_in, group_line, is_dash, Parsed};
+ghost use Rattle.audit.specs.Lines.{group_line, is_dash, Parsed};
 ghost use Rattle.audit.specs.declared.lines.Reason.TheVariants.{NoMemory};
 
 use std::alloc::{AllocError, AllocFailed, Global};
 use std::fmt;
 use text::names::same;
 use text::numbers::{decimal, hex_word};
-use text::split::next_word;
+use text::split::{Words, is_blank, next_word};
 
 /// Why a line is not understood.
 #[derive(Clone, Copy, PartialEq, Eq, Debug)]
@@ -36,22 +36,14 @@ impl<T: Drop> From<AllocFailed<T>> for Reason {
 
 impl fmt::Display for Reason {
     fn fmt<W: fmt::Write>(&self, f: &mut fmt::Formatter<W>) -> fmt::Result {
-        match *self {
-            Reason::NoGroup => f.write_str("the list begins with 'group' and the number of sites"),
-            Reason::NoWord => f.write_str(
-                "a message is words of eight upper-case hexadecimal digits, or '-' for none",
-            ),
-            Reason::NoMemory => f.write_str("no memory is left"),
-        }
+        f.write_str(match *self {
+            Reason::NoGroup => "the list begins with 'group' and the number of sites",
+            Reason::NoWord => {
+                "a message is words of eight upper-case hexadecimal digits, or '-' for none"
+            }
+            Reason::NoMemory => "no memory is left",
+        })
     }
-}
-
-/// Whether the text has no words.
-pub fn is_blank(text: &[u8]) -> bool
-    ensures { result ≡ none_in (words text.now) }
-{
-    let (word, _) = next_word(text);
-    word.is_empty()
 }
 
 /// The number of sites that the first line says.
@@ -63,10 +55,7 @@ pub fn parse_group(line: &[u8]) -> Result<u32, Reason>
     if !same(name, b"group") || !is_blank(rest) {
         return Err(Reason::NoGroup);
     }
-    match decimal(number) {
-        Some(sites) => Ok(sites),
-        None => Err(Reason::NoGroup),
-    }
+    decimal(number).ok_or(Reason::NoGroup)
 }
 
 // Whether the line is a lone `-`.
@@ -85,16 +74,8 @@ pub fn parse_message(heap: Global, line: &[u8]) -> Result<Vec<u32>, Reason>
     if is_dash(line) {
         return Ok(message);
     }
-    let mut rest = line;
-    loop {
-        let (word, after) = next_word(rest);
-        if word.is_empty() {
-            return Ok(message);
-        }
-        let Some(value) = hex_word(word) else {
-            return Err(Reason::NoWord);
-        };
-        message.push(value)?;
-        rest = after;
+    for word in Words(line) {
+        message.push(hex_word(word).ok_or(Reason::NoWord)?)?;
     }
+    Ok(message)
 }

@@ -1,5 +1,5 @@
 -- Lines that have words, with their numbers.
-use Rattle.std.specs.Prelude.{◌≡◌, ℕ, ◌+◌, ◌-◌, ◌^◌, min, cond, List, [], ◌∷◌, IfSome, Option}
+use Rattle.std.specs.Prelude.{◌≡◌, ℕ, ◌+◌, ◌-◌, ◌^◌, min, cond, List, [], ◌∷◌, MatchOption, Option}
 use Rattle.std.specs.Iterator.{Count, YieldsFirstBy, item_count}
 use Rattle.text.specs.Split.{content_of, lines, words, none_in}
 use Rattle.text.specs.declared.lines.Line.{Line}
@@ -25,6 +25,16 @@ lines_left s = worded s.number (lines s.rest.now)
 abbrev pub count_left : Lines → Count
 count_left = item_count lines_left
 
--- Each call gives the first line of those that are left, with the text that is read on from then.
+-- How many lines there are in all, where n stand before these.
+abbrev pub counted : ℕ → List (List ℕ) → ℕ
+counted n [] = n
+counted n (l ∷ ls) = counted (number_after n) ls
+
+abbrev pub lines_in_all : Lines → ℕ
+lines_in_all s = counted s.number (lines s.rest.now)
+
+-- Each call gives the first line of those that are left, and the text that is read on from then; at the end all lines are counted.
 abbrev pub NextLine : Lines → Option Line → Lines → Type 0
-NextLine s r t = YieldsFirstBy line_value lines_left s r t × IfSome r (λ line. line.after ≡ t.rest)
+NextLine s r t =
+    YieldsFirstBy line_value lines_left s r t × (lines_in_all t ≡ lines_in_all s)
+    × MatchOption r (lines t.rest.now ≡ []) (λ line. (line.after ≡ t.rest) × (line.number ≡ t.number))

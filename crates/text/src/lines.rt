@@ -31,6 +31,13 @@ impl<'a> Lines<'a> {
             number: 0,
         }
     }
+
+    /// How many lines were read so far, those without words too.
+    pub fn passed(&self) -> u64
+        ensures { result ≡ self.now.number }
+    {
+        self.number
+    }
 }
 
 impl<'a> Iterator for Lines<'a> {
@@ -43,12 +50,15 @@ impl<'a> Iterator for Lines<'a> {
     fn next(&mut self) -> Option<Line<'a>> {
         while !self.rest.is_empty() {
             let (line, after) = next_line(self.rest);
-            self.rest = after;
-            self.number = self.number.saturating_add(1);
+            let number = self.number.saturating_add(1);
+            *self = Lines {
+                rest: after,
+                number,
+            };
             let words = content(line);
             if !is_blank(words) {
                 return Some(Line {
-                    number: self.number,
+                    number,
                     words,
                     after,
                 });

@@ -54,7 +54,7 @@ fn lines_without_words_count(rt: HostRuntime) -> Result<(), Fail> {
         };
         assert!(rt; line.number == number && line.words == words && line.after == after);
     }
-    assert!(rt; lines.next().is_none());
+    assert!(rt; lines.next().is_none() && lines.passed() == 5);
     Ok(())
 }
 
