@@ -9,11 +9,10 @@ use crate::stage::Stage;
 use anyhow::anyhow;
 use script::asks::{Ask, Source};
 use script::lines::parse_line;
-use script::parts::is_blank;
 use site::refusals::Refusal;
 use std::alloc::Global;
 use std::fmt::Write;
-use text::split::{content, next_line};
+use text::split::{content, is_blank, next_line};
 
 // A line that has words: its number, counted from 1, its words, and the text after it.
 #[derive(Clone, Copy)]
