@@ -1,11 +1,7 @@
 -- Known numbers: a test of each, one of them set, the least of them.
-use Rattle.std.proofs.Common.{◌≡◌, ℕ, zero, suc, ◌+◌, ◌<◌, ◌≤◌, min, true, leb, List, [], ◌∷◌, length, get_or, set, replicate, fold, sym, refl, ap, ◌∙◌, arith}
+use Rattle.std.proofs.Common.{◌≡◌, ℕ, zero, suc, ◌+◌, ◌<◌, ◌≤◌, min, true, leb, List, [], ◌∷◌, length, get_or, set, fold, sym, refl, ap, ◌∙◌, arith}
 use Rattle.std.proofs.lemmas.Bool.{and_parts, lt-ltb, le-leb, eq-eqb}
 use Rattle.logs.specs.LogModel.{Marks, limit, a_mark, all_within, mark_noted, mark_closed, least}
-
-pub within_zeros : (n : ℕ) → all_within (replicate n 0) ≡ true
-within_zeros zero = refl
-within_zeros (suc n) = within_zeros n
 
 pub within_set : (xs : List ℕ) (i x : ℕ) → leb x limit ≡ true → all_within xs ≡ true → all_within (set xs i x) ≡ true
 within_set [] i x h all = refl

@@ -11,8 +11,7 @@ use Rattle.words.specs.declared.changes.Change.TheVariants.{Set, Remove}
 use Rattle.words.specs.declared.changes.Write.{Write}
 use Rattle.words.specs.Bits.{kind_of, load_of, word, value_of, value_load, value_fits, site_of, count_of, head}
 use Rattle.words.specs.Writes.{a_write, change_of, write_of, and_then, leading, change_word, writes_words, change_fits, write_fits, all_fit}
-use Rattle.logs.specs.declared.heads.EntryHead.{EntryHead}
-use Rattle.logs.specs.LogModel.{Entry, limit, an_entry, head_of, cost, total_cost, loggable, all_loggable}
+use Rattle.logs.specs.LogModel.{Entry, limit, an_entry, cost, total_cost, loggable, all_loggable}
 use Rattle.logs.specs.PageWords.{page_words, pages_words, begins, page_length, entry_in, entries_in}
 use Rattle.logs.specs.HolderBounds.{length_page}
 use Rattle.logs.proofs.Loggable.{loggable_parts, write_parts, fits_at}
@@ -199,23 +198,10 @@ module _ (ws : List ℕ) (n v : ℕ) (e : Entry) (l : loggable e ≡ true) (ther
   head_word : (x : ℕ) → x ≡ slice_index_or ws n x → x ≡ head 8 e.home (length e.writes)
   head_word x q = page_word 0 n x (omega arith) (omega (arith, length_page v e)) q
 
-  pub home_read : (x : ℕ) → x ≡ slice_index_or ws n x → site_of x ≡ e.home
-  home_read x q =
-      let p = loggable_parts e l in
-      ap site_of (head_word x q) ∙ home_back e.home (length e.writes) p.0 (omega (arith, p.2))
-
   pub count_read : (x : ℕ) → x ≡ slice_index_or ws n x → count_of x ≡ length e.writes
   count_read x q =
       let p = loggable_parts e l in
       ap count_of (head_word x q) ∙ count_back e.home (length e.writes) p.0 (omega (arith, p.2))
-
-  pub ticket_read : (x : ℕ) → x ≡ slice_index_or ws (n + 2) x → load_of x ≡ e.ticket
-  ticket_read x q = ap load_of (page_word 2 (n + 2) x refl (omega (arith, length_page v e)) q) ∙ ticket_back e.ticket (loggable_parts e l).1
-
-  -- the head, from the first word and the third
-  pub head_read : (home ticket count x y : ℕ) → x ≡ slice_index_or ws n x → y ≡ slice_index_or ws (n + 2) y → home ≡ site_of x → ticket ≡ load_of y → count ≡ count_of x →
-      ◌≡◌ {A = EntryHead} (record { home = home; ticket = ticket; count = count }) (head_of e)
-  head_read home ticket count x y q r a b c = rw (a ∙ home_read x q, b ∙ ticket_read y r, c ∙ count_read x q)
 
   -- the two words of the k-th write
   pub write_read : (k x y : ℕ) → k < length e.writes → x ≡ slice_index_or ws (n + 3 + 2 * k) x → y ≡ slice_index_or ws (n + 3 + 2 * k + 1) y →

@@ -7,12 +7,12 @@ use Rattle.std.proofs.lemmas.Bool.Decides.{nat_tests}
 use Rattle.logs.specs.declared.ring.Ring.{Ring}
 use Rattle.logs.specs.declared.row.FlatEntry.{FlatEntry}
 use Rattle.logs.specs.declared.table.Table.{Table}
-use Rattle.logs.specs.LogModel.{Entry, limit, a_holding, last_held, all_loggable, fits, can_append, appended, held_above, entry_held}
+use Rattle.logs.specs.LogModel.{Entry, limit, a_holding, last_held, all_loggable, fits, can_append, held_above, entry_held}
 use Rattle.logs.specs.RingModel.{ring_items, ring_size}
 use Rattle.logs.specs.RowModel.{row_entry}
 use Rattle.logs.specs.TableModel.{table_held}
 use Rattle.logs.specs.HolderBounds.{flat_cost, table_long, table_last}
-use Rattle.logs.proofs.Holding.{entry_some, append_parts, append_taken, above_more}
+use Rattle.logs.proofs.Holding.{entry_some, append_parts, above_more}
 use Rattle.logs.proofs.Loggable.{loggable_push, loggable_drop}
 
 module _ (t : Table) where
@@ -45,12 +45,6 @@ module _ (t : Table) (e : Entry) (can : can_append (table_held t) e ≡ true) (x
   pub pushed_sound : all_loggable (map row_entry (ring_items rows)) ≡ true
   pushed_sound =
       ap all_loggable pushed_entries ∙ loggable_push (table_held t).entries e t.sound (append_parts (table_held t) e can).0
-
-  pub pushed_held : a_holding t.floor (map row_entry (ring_items rows)) (ring_size rows) 1 0 ≡ appended (table_held t) e
-  pushed_held =
-      ap (λ es. a_holding t.floor es (ring_size rows) 1 0) pushed_entries
-      ∙ ap (λ n. a_holding t.floor ((table_held t).entries ++ (e ∷ [])) n 1 0) size
-      ∙ sym (append_taken (table_held t) e can)
 
 -- without the rows up to version b, the smaller of v and the last version
 module _ (t : Table) (v b : ℕ) (bound : b ≡ min v (last_held (table_held t))) (above : t.floor < b)

@@ -1,7 +1,5 @@
-use Rattle.std.proofs.Common.{◌≡◌, ◌++◌, length, refl, sym, ap, ◌∙◌, arith}
+use Rattle.std.proofs.Common.{length, refl, sym, ap, ◌∙◌, arith}
 use Rattle.logs.specs.LogModel.{entry_of}
-use Rattle.logs.specs.RingModel.{ring_items}
-use Rattle.logs.specs.PageWords.{page_words}
 use Rattle.logs.specs.HolderBounds.{length_page}
 use Rattle.logs.proofs.Spelt.{page_spelt, page_there}
 use Rattle.logs.proofs.page.push_page.Goals as goal
@@ -11,21 +9,8 @@ unwrap-length-requires c =
     let e = page_spelt c.args.version (entry_of c.args.entry) c.requires.version c.requires.loggable c.spell_entry.result c.spell_entry.ensures.answer in
     rw e refl
 
-pub slice_bounds-extend-end : goal.slice_bounds-extend-end
-slice_bounds-extend-end c =
-    let e = page_spelt c.args.version (entry_of c.args.entry) c.requires.version c.requires.loggable c.spell_entry.result c.spell_entry.ensures.answer in
-    let p = page_there c.args.version (entry_of c.args.entry) c.requires.version c.requires.loggable _ _ (sym c.unwrap-length.ensures ∙ e) c.spell_entry.ensures.after in
-    let n : c.unwrap-length.result ≡ length (page_words c.args.version (entry_of c.args.entry)) = cc in
-    n ∙ sym (ap length p)
-
 pub extend-requires : goal.extend-requires
 extend-requires c =
     let e = page_spelt c.args.version (entry_of c.args.entry) c.requires.version c.requires.loggable c.spell_entry.result c.spell_entry.ensures.answer in
     let p = page_there c.args.version (entry_of c.args.entry) c.requires.version c.requires.loggable _ _ (sym c.unwrap-length.ensures ∙ e) c.spell_entry.ensures.after in
     omega (arith, ap length p, length_page c.args.version (entry_of c.args.entry), c.requires.room)
-
-pub returns : goal.returns
-returns c =
-    let e = page_spelt c.args.version (entry_of c.args.entry) c.requires.version c.requires.loggable c.spell_entry.result c.spell_entry.ensures.answer in
-    let p = page_there c.args.version (entry_of c.args.entry) c.requires.version c.requires.loggable _ _ (sym c.unwrap-length.ensures ∙ e) c.spell_entry.ensures.after in
-    record { items = c.extend.ensures.items ∙ ap (λ ws. ring_items c.args.words.now ++ ws) p; size = c.extend.ensures.size }

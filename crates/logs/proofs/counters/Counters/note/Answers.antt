@@ -1,10 +1,9 @@
-use Rattle.std.proofs.Common.{◌+◌, length, ap, ◌∙◌, arith}
+use Rattle.std.proofs.Common.{length, ap, ◌∙◌, arith}
 use Rattle.std.proofs.lemmas.List.{length-set}
 use Rattle.std.proofs.lemmas.Bool.{le-leb}
 use Rattle.few.specs.Lists.{few_items}
-use Rattle.logs.specs.LogModel.{a_mark, all_within}
-use Rattle.logs.specs.CountersModel.{counters_marks}
-use Rattle.logs.proofs.Numbers.{within_set, noted_is}
+use Rattle.logs.specs.LogModel.{all_within}
+use Rattle.logs.proofs.Numbers.{within_set}
 use Rattle.logs.proofs.counters.Counters.note.Goals as goal
 
 pub invariant_of-self : goal.invariant_of-self
@@ -19,9 +18,3 @@ invariant_of-self c =
           ap all_within c.replace.ensures.after
           ∙ within_set ks c.args.site c.args.number (le-leb _ _ c.if-number-le-LIMIT.true) k.within;
     }
-
-pub returns-then-self-lt-LIMIT : goal.returns-then-self-lt-LIMIT
-returns-then-self-lt-LIMIT c =
-    let k = c.args.self.now in
-    ap (λ ks. a_mark (k.place + 1) ks k.tickets k.whole) c.replace.ensures.after
-    ∙ noted_is (counters_marks k) c.args.site c.args.number (omega arith) c.if-number-le-LIMIT.true c.if-self-lt-LIMIT.true

@@ -1,15 +1,7 @@
 use Rattle.std.proofs.Common.{arith}
 use Rattle.logs.specs.LogModel.{entry_of}
-use Rattle.logs.specs.TableModel.{table_held}
-use Rattle.logs.proofs.Holding.{append_parts}
-use Rattle.logs.proofs.Loggable.{loggable_parts}
-use Rattle.logs.proofs.Tables.{table_open, pushed_high, pushed_sound, pushed_held}
+use Rattle.logs.proofs.Tables.{table_open, pushed_high, pushed_sound}
 use Rattle.logs.proofs.table.ops.TableHolder.push.Goals as goal
-
-pub of-requires : goal.of-requires
-of-requires c =
-    let e = entry_of c.args.entry in
-    (loggable_parts e (append_parts (table_held c.args.self.now) e c.requires).0).2
 
 pub push-requires : goal.push-requires
 push-requires c =
@@ -25,9 +17,3 @@ invariant_of-self c =
       small = omega (arith, c.push.ensures.size, t.small);
       sound = pushed_sound t e c.requires _ c.of.ensures c.push.new.self c.push.ensures.items c.push.ensures.size;
     }
-
-pub returns : goal.returns
-returns c =
-    let t = c.args.self.now in
-    let e = entry_of c.args.entry in
-    pushed_held t e c.requires _ c.of.ensures c.push.new.self c.push.ensures.items c.push.ensures.size

@@ -1,10 +1,6 @@
 use Rattle.std.proofs.Common.{min, ap, ◌∙◌, arith}
-use Rattle.logs.specs.HolderBounds.{table_last}
 use Rattle.logs.proofs.Tables.{left_high, left_sound, left_held}
 use Rattle.logs.proofs.table.ops.TableHolder.trim.Goals as goal
-
-pub remove_front-requires : goal.remove_front-requires
-remove_front-requires c = omega (arith, table_last c.args.self.now, c.last.ensures)
 
 pub invariant_of-self : goal.invariant_of-self
 invariant_of-self c =
