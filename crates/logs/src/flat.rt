@@ -10,6 +10,7 @@ use crate::row::FlatEntry;
 use crate::table::Table;
 use words::limits::is_group;
 
+/// A log as a table of entries.
 pub type Flat = Kept<Table>;
 
 impl Flat {

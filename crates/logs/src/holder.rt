@@ -6,12 +6,14 @@ ghost use Rattle.logs.specs.LogModel.{Held, HeldBounds, entry_of, last_held, fit
 use crate::heads::{EntryHead, NewEntry};
 use words::changes::Write;
 
+/// A holder of entries: what a log does with them, by what is held.
 pub trait Holder: Drop {
     // What an entry costs of the capacity, and what each of its writes costs.
     const ENTRY_COST: u32;
 
     const WRITE_COST: u32;
 
+    // The same numbers, for clauses and laws.
     ghost ENTRY_COST: { ℕ };
 
     ghost WRITE_COST: { ℕ };

@@ -1,6 +1,5 @@
 // A log over any holder of its entries, with counters of how far it has come.
-ghost use Rattle.std.specs.Prelude.{◌≡◌, true, is_ok};
-ghost use Rattle.words.specs.Bits.{is_group};
+ghost use Rattle.std.specs.Prelude.{◌≡◌, is_ok};
 ghost use Rattle.logs.specs.LogModel.{entry_of, can_append, appended};
 
 use crate::api::{Declined, Log};
@@ -10,6 +9,7 @@ use crate::holder::Holder;
 use words::changes::Write;
 use words::limits::LIMIT;
 
+/// A log: a holder of its entries, and how far it has come.
 #[derive(Drop)]
 pub struct Kept<H: Holder> {
     pub(crate) counters: Counters,
@@ -17,6 +17,7 @@ pub struct Kept<H: Holder> {
 }
 
 impl<H: Holder> Kept<H> {
+    // Whether one more entry is taken.
     fn can_append(&self, entry: NewEntry<'_>) -> bool
         ensures { result ≡ can_append (H.held self.now.holder) (entry_of entry.entry) }
     {

@@ -10,6 +10,7 @@ use crate::pages::Pages;
 use std::alloc::Global;
 use words::limits::is_group;
 
+/// A log as pages in a ring of words.
 pub type Packed = Kept<Pages>;
 
 impl Packed {

@@ -8,6 +8,7 @@ use crate::ring::Ring;
 
 pub mod ops;
 
+/// The entries of a packed log.
 #[derive(Drop)]
 pub struct Pages {
     floor: u32,

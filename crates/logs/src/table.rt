@@ -9,6 +9,7 @@ use crate::row::FlatEntry;
 
 pub mod ops;
 
+/// The entries of a flat log.
 #[derive(Drop)]
 pub struct Table {
     floor: u32,
