@@ -1,11 +1,43 @@
 -- An edit's writes with one set or replaced.
-use Rattle.std.proofs.Common.{◌≡◌, ℕ, zero, suc, ◌+◌, ◌-◌, ◌<◌, ◌≤◌, Bool, true, false, cond, leb, List, [], ◌∷◌, ◌++◌, length, get_or, take, drop, set, sym, refl, ap, ◌∙◌, inl, inr, arith}
-use Rattle.std.proofs.lemmas.List.{length-take-le, get_or-take, length-append, length-take, length-drop, length-set, append_assoc, set-append_left, take_more_set, take_at, take-take, drop-take}
-use Rattle.std.proofs.lemmas.Bool.{eq-eqb, ne_eqb, lt-ltb, le-ltb, le-leb, lt-leb, and_parts, and_from, cases_order}
+use Rattle.std.proofs.Common.{◌≡◌, Less, Equal, Greater, eqb, Some, None, Option, ℕ, zero, suc, ◌+◌, ◌<◌, ◌≤◌, Bool, true, false, cond, leb, ltb, List, [], ◌∷◌, ◌++◌, length, get_or, take, drop, set, sym, refl, ap, subst, ◌∙◌, inl, inr, arith}
+use Rattle.std.specs.List.{insert, HoldsAt, find}
+use Rattle.std.specs.Option.{option_map}
+use Rattle.std.specs.Borrow.{Bor}
+use Rattle.std.specs.List.Sorted.{IsPartitionPoint, IsNonDecreasingBy}
+use Rattle.std.specs.Ordering.{nat_cmp, ordering_index}
+use Rattle.std.proofs.lemmas.Cmp.{ranked}
+use Rattle.std.proofs.lemmas.List.Sorted.{IsNonDecreasingBy-from_default}
+use Rattle.std.proofs.lemmas.List.Edits.{length-insert}
+use Rattle.std.proofs.lemmas.Bool.Decides.{nat_tests}
+use Rattle.few.specs.Lists.{has_room, inserted}
+use Rattle.std.proofs.lemmas.Bool.{ltb-true, ltb-false, eq-eqb, ne_eqb, lt-ltb, le-ltb, le-leb, lt-leb, leb-true, and_parts, and_from, cases_order}
+use Rattle.words.specs.declared.changes.Change.{Change}
 use Rattle.words.specs.declared.changes.Write.{Write}
 use Rattle.words.specs.Writes.{write_fits, fit_from}
-use Rattle.site.specs.declared.edits.Edit.{Edit}
-use Rattle.site.specs.Edits.{an_edit_of, rank, with_write, blank, HasAt, put_write}
+use Rattle.site.specs.Edits.{an_edit_of, own_change, with_write, put_write}
+
+-- the change of the first write to the item
+own_by : (b : Bool) (w : Write) (o : Option Change) (p : Option Write) → option_map (λ v. v.change) p ≡ o →
+    option_map (λ v. v.change) (cond b (Some w) p) ≡ cond b (Some w.change) o
+own_by true w o p e = refl
+own_by false w o p e = e
+
+own_found : (l : List Write) (x : ℕ) → option_map (λ v. v.change) (find (λ w. eqb w.item x) l) ≡ own_change l x
+own_found [] x = refl
+own_found (w ∷ l) x = own_by (eqb w.item x) w (own_change l x) (find (λ v. eqb v.item x) l) (own_found l x)
+
+changed : (r : Option (Bor Write)) → option_map (λ b. b.now.change) r ≡ option_map (λ v. v.change) (option_map (λ b. b.now) r)
+changed None = refl
+changed (Some b) = refl
+
+pub own_from_find : (l : List Write) (x : ℕ) (r : Option (Bor Write)) → option_map (λ b. b.now) r ≡ find (λ w. eqb w.item x) l →
+    option_map (λ b. b.now.change) r ≡ own_change l x
+own_from_find l x r e = changed r ∙ ap (option_map (λ v. v.change)) e ∙ own_found l x
+
+-- how many of the writes are to lower items
+abbrev pub rank : List Write → ℕ → ℕ
+rank [] x = 0
+rank (w ∷ l) x = cond (ltb w.item x) (suc (rank l x)) 0
 
 -- the three ways that a first write can stand to the one that is put
 module _ (x : Write) (l : List Write) (w : Write) where
@@ -64,52 +96,77 @@ fit_with low (x ∷ l) w f h g =
       ]
     ]
 
-take_set_in : (n i : ℕ) (l : List Write) (a : Write) → i < n → take n (set l i a) ≡ set (take n l) i a
-take_set_in zero i l a h = absurd (omega arith)
-take_set_in (suc n) i [] a h = refl
-take_set_in (suc n) zero (x ∷ l) a h = refl
-take_set_in (suc n) (suc i) (x ∷ l) a h = ap (λ k. x ∷ k) (take_set_in n i l a (omega arith))
+-- a place with lower items before it, and none from it on, is the rank
+module _ (x : ℕ) where
+  pub rank_gap : (l : List Write) (i : ℕ) (d : Write) → i ≤ length l → ((k : ℕ) → k < i → (get_or l k d).item < x) →
+      ((k : ℕ) → i ≤ k → k < length l → x ≤ (get_or l k d).item) → rank l x ≡ i
+  rank_gap [] i d h lo hi = omega arith
+  rank_gap (w ∷ l) zero d h lo hi = ap (λ b. cond b (suc (rank l x)) 0) (le-ltb w.item x (hi 0 (omega arith) (omega arith)))
+  rank_gap (w ∷ l) (suc i) d h lo hi =
+      ap (λ b. cond b (suc (rank l x)) 0) (lt-ltb w.item x (lo 0 (omega arith)))
+      ∙ ap suc (rank_gap l i d (omega arith) (λ k f. lo (suc k) (omega arith)) (λ k f g. hi (suc k) (omega arith) (omega arith)))
 
--- the first n of a table's writes, with one put at its rank
-module _ (n : ℕ) (ws : List Write) (w d : Write) (place : ℕ) (few : n ≤ length ws) (ranked : place ≡ rank (take n ws) w.item) where
-  many : length (take n ws) ≡ n
-  many = length-take-le n ws few
+-- items rise, one to a write
+above : (low : ℕ) (l : List Write) (k : ℕ) (d : Write) → fit_from low l ≡ true → k < length l → low ≤ (get_or l k d).item
+above low [] k d f h = absurd (omega arith)
+above low (w ∷ l) zero d f h = leb-true low w.item (and_parts (leb low w.item) _ (and_parts (write_fits low w) (fit_from (suc w.item) l) f).0).0
+above low (w ∷ l) (suc k) d f h =
+    let a = and_parts (write_fits low w) (fit_from (suc w.item) l) f in
+    let p = leb-true low w.item (and_parts (leb low w.item) _ a.0).0 in
+    let q = above (suc w.item) l k d a.1 (omega arith) in
+    omega arith
 
-  put_over : place < n → (get_or ws place d).item ≡ w.item → with_write (take n ws) w ≡ take n (set ws place w)
-  put_over h e =
-      (placed_at (take n ws) w d).0 (omega (arith, many))
-      (ap (λ r. (get_or (take n ws) r d).item) (sym ranked) ∙ ap (λ x. x.item) (get_or-take n ws place d h) ∙ e)
-      ∙ ap (λ r. set (take n ws) r w) (sym ranked)
-      ∙ sym (take_set_in n place ws w h)
+pub rising : (low : ℕ) (l : List Write) (i j : ℕ) (d : Write) → fit_from low l ≡ true → i < j → j < length l → (get_or l i d).item < (get_or l j d).item
+rising low [] i j d f h k = absurd (omega arith)
+rising low (w ∷ l) i zero d f h k = absurd (omega arith)
+rising low (w ∷ l) zero (suc j) d f h k =
+    let q = above (suc w.item) l j d (and_parts (write_fits low w) (fit_from (suc w.item) l) f).1 (omega arith) in omega arith
+rising low (w ∷ l) (suc i) (suc j) d f h k = rising (suc w.item) l i j d (and_parts (write_fits low w) (fit_from (suc w.item) l) f).1 (omega arith) (omega arith)
 
-  put_in : (place < n → (get_or ws place d).item ≡ w.item → ⊥) → with_write (take n ws) w ≡ take place (take n ws) ++ (w ∷ drop place (take n ws))
-  put_in other =
-      (placed_at (take n ws) w d).1 (λ h e.
-      let k : place < n = omega (arith, many) in
-      other k (sym (ap (λ x. x.item) (get_or-take n ws place d k)) ∙ ap (λ r. (get_or (take n ws) r d).item) ranked ∙ e))
-      ∙ ap (λ r. take r (take n ws) ++ (w ∷ drop r (take n ws))) (sym ranked)
+module _ (l : List Write) (w : Write) (orderly : fit_from 0 l ≡ true) where
+  ranked_at : (i : ℕ) → i < length l → (get_or l i w).item ≡ w.item → rank l w.item ≡ i
+  ranked_at i h e =
+      rank_gap w.item l i w (omega arith) (λ k f. let q = rising 0 l k i w orderly f h in omega arith)
+      (λ k f g. elim (cases_order i k) [
+        | inl q ↦ (omega (arith, ap (λ n. (get_or l n w).item) q, e))
+        | inr o ↦ elim o [
+          | inl q ↦ (let r = rising 0 l i k w orderly q g in omega arith)
+          | inr q ↦ (absurd (omega arith))
+        ]
+      ])
 
-  put_in_length : place ≤ n → length (take place (take n ws) ++ (w ∷ drop place (take n ws))) ≡ n + 1
-  put_in_length h = simp (length-append, length-take, length-drop) (omega (arith, many))
+  -- the comparisons with the item rise along the writes, as a binary search asks
+  comparisons_rise : IsNonDecreasingBy (λ y. ordering_index (nat_cmp y.item w.item)) l
+  comparisons_rise = IsNonDecreasingBy-from_default (λ y. ordering_index (nat_cmp y.item w.item)) l w (λ i j le within.
+      let items_rise : (get_or l i w).item ≤ (get_or l j w).item =
+      grind (arith, λ (lt : i < j). rising 0 l i j w orderly lt within, λ (same : i ≡ j). ap (λ n. (get_or l n w).item) same) in
+      grind (arith, nat_tests))
 
-  gap_filled : n < length ws → place ≤ n →
-      take (n + 1) (set (take (place + 1) ws ++ (take (n - place) (drop place ws) ++ drop (n + 1) ws)) place w) ≡ take place (take n ws) ++ (w ∷ drop place (take n ws))
-  gap_filled h k =
-      let rest = take (n - place) (drop place ws) in
-      let e : place + (n - place) ≡ n = omega arith in
-      let p : length (take (place + 1) ws) ≡ place + 1 = length-take-le (place + 1) ws (omega arith) in
-      let q : length rest ≡ n - place = length-take-le (n - place) (drop place ws) (omega (arith, length-drop place ws)) in
-      let front : set (take (place + 1) ws) place w ≡ take place ws ++ (w ∷ []) =
-      sym (take_set_in (place + 1) place ws w (omega arith)) ∙ take_more_set ws place w (omega arith) in
-      let r : length ((take place ws ++ (w ∷ [])) ++ rest) ≡ n + 1 =
-      length-append (take place ws ++ (w ∷ [])) rest ∙ ap (λ m. m + length rest) (sym (ap length front) ∙ length-set (take (place + 1) ws) place w ∙ p) ∙ omega (arith, q) in
-      let there : take (n - place) (drop place ws) ≡ drop place (take n ws) = sym (drop-take place (n - place) ws) ∙ ap (λ m. drop place (take m ws)) e in
-      ap (take (n + 1)) (set-append_left (take (place + 1) ws) (rest ++ drop (n + 1) ws) place w (omega (arith, p)) ∙ ap (λ v. v ++ (rest ++ drop (n + 1) ws)) front
-      ∙ sym (append_assoc (take place ws ++ (w ∷ [])) rest (drop (n + 1) ws)))
-      ∙ take_at ((take place ws ++ (w ∷ [])) ++ rest) (drop (n + 1) ws) (n + 1) r
-      ∙ append_assoc (take place ws) (w ∷ []) rest
-      ∙ ap (λ v. v ++ (w ∷ rest)) (sym (take-take place n ws k))
-      ∙ ap (λ v. take place (take n ws) ++ (w ∷ v)) there
+  -- a binary search that found the item, and one that did not
+  with_replaced : (i : ℕ) → i < length l → HoldsAt (λ y. nat_cmp y.item w.item ≡ Equal) l i → with_write l w ≡ set l i w
+  with_replaced i h found =
+      let e : (get_or l i w).item ≡ w.item = ranked _ w.item _ (sym (found w)) in
+      let r = ranked_at i h e in
+      (placed_at l w w).0 (omega arith) (ap (λ n. (get_or l n w).item) r ∙ e) ∙ ap (λ n. set l n w) r
+
+  with_inserted : (i : ℕ) → i ≤ length l → (IsNonDecreasingBy (λ y. ordering_index (nat_cmp y.item w.item)) l →
+      IsPartitionPoint (λ y. nat_cmp y.item w.item ≡ Less) (λ y. nat_cmp y.item w.item ≡ Greater) l i) → with_write l w ≡ insert l i w
+  with_inserted i h parted =
+      let lower : (k : ℕ) → k < i → (get_or l k w).item < w.item = λ k f. ranked _ w.item _ (sym ((parted comparisons_rise).0 k w (omega arith) f)) in
+      let higher : (k : ℕ) → i ≤ k → k < length l → w.item < (get_or l k w).item = λ k f g. ranked _ w.item _ (sym ((parted comparisons_rise).1 k w f g)) in
+      let r = rank_gap w.item l i w h lower (λ k f g. let q = higher k f g in omega arith) in
+      (placed_at l w w).1 (λ f e. let q = higher (rank l w.item) (omega arith) f in omega arith) ∙ ap (λ n. insert l n w) r
+
+-- the same of the writes as they are handed on
+module _ (held l : List Write) (w : Write) (same : held ≡ l) (orderly : fit_from 0 l ≡ true) (i : ℕ) where
+  pub found_at : i < length held → HoldsAt (λ y. nat_cmp y.item w.item ≡ Equal) held i → with_write l w ≡ set l i w
+  found_at = subst (λ k. i < length k → HoldsAt (λ y. nat_cmp y.item w.item ≡ Equal) k i → with_write l w ≡ set l i w) (sym same) (with_replaced l w orderly i)
+
+  pub gap_at : i ≤ length held → (IsNonDecreasingBy (λ y. ordering_index (nat_cmp y.item w.item)) held →
+      IsPartitionPoint (λ y. nat_cmp y.item w.item ≡ Less) (λ y. nat_cmp y.item w.item ≡ Greater) held i) → with_write l w ≡ insert l i w
+  gap_at =
+      subst (λ k. i ≤ length k → (IsNonDecreasingBy (λ y. ordering_index (nat_cmp y.item w.item)) k →
+      IsPartitionPoint (λ y. nat_cmp y.item w.item ≡ Less) (λ y. nat_cmp y.item w.item ≡ Greater) k i) → with_write l w ≡ insert l i w) (sym same) (with_inserted l w orderly i)
 
 -- the answer, and what is left
 put_by : (b : Bool) (t s : ℕ) (l k : List Write) (w : Write) → with_write l w ≡ k → leb (length k) 16 ≡ b →
@@ -124,24 +181,21 @@ put_taken t s l k w e h = sym (put_by true t s l k w e (le-leb (length k) 16 h))
 pub put_declined : (t s : ℕ) (l k : List Write) (w : Write) → with_write l w ≡ k → 16 < length k → (false, an_edit_of t s l) ≡ put_write (an_edit_of t s l) w
 put_declined t s l k w e h = sym (put_by false t s l k w e (lt-leb (length k) 16 h))
 
--- an edit's table, by what stands at the rank of the item
-module _ (a : Edit) (w : Write) (place : ℕ) (ranked : place ≡ rank (take a.count a.writes) w.item) where
-  roomy : a.count ≤ length a.writes
-  roomy = omega (arith, a.few, a.table)
+-- a write put in at the place that the search gave, where there is room
+module _ (l k : List Write) (i : ℕ) (w : Write) (e : with_write l w ≡ insert l i w) (h : i ≤ length l) where
+  longer : length (insert l i w) ≡ length l + 1
+  longer = length-insert l i w h
 
-  pub over : HasAt a place w.item → with_write (take a.count a.writes) w ≡ take a.count (set a.writes place w)
-  over h = put_over a.count a.writes w blank place roomy ranked h.within h.same
+  fit_by : (b : Bool) → k ≡ cond b (insert l i w) l → fit_from 0 l ≡ true → write_fits 0 w ≡ true → fit_from 0 k ≡ true
+  fit_by true f o g = ap (fit_from 0) (f ∙ sym e) ∙ fit_with 0 l w o (omega arith) g
+  fit_by false f o g = ap (fit_from 0) f ∙ o
 
-  pub into : (HasAt a place w.item → ⊥) → with_write (take a.count a.writes) w ≡ take place (take a.count a.writes) ++ (w ∷ drop place (take a.count a.writes))
-  into n = put_in a.count a.writes w blank place roomy ranked (λ h e. n (record { within = h; same = e }))
+  pub fit_inserted : k ≡ inserted 16 l i w → fit_from 0 l ≡ true → write_fits 0 w ≡ true → fit_from 0 k ≡ true
+  fit_inserted = fit_by (ltb (length l) 16)
 
-  pub one_more : place ≤ a.count → length (take place (take a.count a.writes) ++ (w ∷ drop place (take a.count a.writes))) ≡ a.count + 1
-  one_more h = put_in_length a.count a.writes w blank place roomy ranked h
+  inserted_by : (b : Bool) (t s : ℕ) → ltb (length l) 16 ≡ b → k ≡ cond b (insert l i w) l → (b, an_edit_of t s k) ≡ put_write (an_edit_of t s l) w
+  inserted_by true t s q f = put_taken t s l k w (e ∙ sym f) (omega (arith, longer, ap length f, ltb-true (length l) 16 q))
+  inserted_by false t s q f = ap (λ m. (false, an_edit_of t s m)) f ∙ put_declined t s l (insert l i w) w e (omega (arith, longer, ltb-false (length l) 16 q))
 
-  pub filled : (gap : List Write) → a.count < 16 → place ≤ a.count → (HasAt a place w.item → ⊥) →
-      gap ≡ take (place + 1) a.writes ++ (take (a.count - place) (drop place a.writes) ++ drop (a.count + 1) a.writes) →
-      with_write (take a.count a.writes) w ≡ take (a.count + 1) (set gap place w)
-  filled gap h k n e =
-      into n
-      ∙ sym (gap_filled a.count a.writes w blank place roomy ranked (omega (arith, a.table)) k)
-      ∙ ap (λ v. take (a.count + 1) (set v place w)) (sym e)
+  pub put_inserted : (t s : ℕ) (b : Bool) → b ≡ has_room 16 l → k ≡ inserted 16 l i w → (b, an_edit_of t s k) ≡ put_write (an_edit_of t s l) w
+  put_inserted t s b q f = ap (λ x. (x, an_edit_of t s k)) q ∙ inserted_by (ltb (length l) 16) t s refl f

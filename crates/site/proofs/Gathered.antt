@@ -1,6 +1,10 @@
--- Writes read from words into a table, one after another.
-use Rattle.std.proofs.Common.{◌≡◌, ℕ, ◌+◌, ◌<◌, ◌≤◌, cond, List, [], ◌∷◌, ◌++◌, length, take, set, is_some, Some, None, sym, refl, ap, ◌∙◌, arith, length-take}
-use Rattle.std.proofs.lemmas.List.{append_assoc, append-nil, take_more_set, take_at, take_all}
+-- Writes read from words, one after another.
+use Rattle.std.proofs.Common.{◌≡◌, ℕ, ◌≤◌, true, false, cond, List, [], ◌∷◌, ◌++◌, length, take, is_some, Some, None, sym, refl, ap, ◌∙◌, arith}
+use Rattle.std.proofs.lemmas.List.{append_assoc, append-nil, take_at, take_all}
+use Rattle.std.proofs.lemmas.List.Edits.{insert_end}
+use Rattle.std.proofs.lemmas.Bool.{ltb-false}
+use Rattle.std.specs.List.{insert}
+use Rattle.few.specs.Lists.{has_room, inserted}
 use Rattle.words.specs.declared.changes.Write.{Write}
 use Rattle.words.specs.Writes.{first_write, after_write, leading, and_then}
 
@@ -15,19 +19,23 @@ leading_none [] e = refl
 leading_none (i ∷ []) e = refl
 leading_none (i ∷ (c ∷ ws)) e = ap (λ o. and_then o (leading ws)) e
 
-module _ (table : List Write) (whole : List Write) (sixteen : length table ≡ 16) where
-  pub gather_more : (n : ℕ) (ws : List ℕ) (w : Write) → n < 16 → first_write ws ≡ Some w → take n table ++ leading ws ≡ whole →
-      take (n + 1) (set table n w) ++ leading (after_write ws) ≡ whole
-  gather_more n ws w within e h =
-      ap (λ l. l ++ leading (after_write ws)) (take_more_set table n w (omega arith))
-      ∙ append_assoc (take n table) (w ∷ []) (leading (after_write ws))
-      ∙ ap (λ l. take n table ++ l) (sym (leading_first ws w e)) ∙ h
+-- the writes so far, and what the rest begins with, are what the whole begins with
+module _ (l whole k : List Write) (ws : List ℕ) (sofar : l ++ leading ws ≡ whole) where
+  -- one more, where there was room
+  pub gather_more : (w : Write) → first_write ws ≡ Some w → has_room 16 l ≡ true → k ≡ inserted 16 l (length l) w → k ++ leading (after_write ws) ≡ whole
+  gather_more w e room f =
+      ap (λ m. m ++ leading (after_write ws)) (f ∙ ap (λ b. cond b (insert l (length l) w) l) room ∙ insert_end l w)
+      ∙ append_assoc l (w ∷ []) (leading (after_write ws))
+      ∙ ap (λ m. l ++ m) (sym (leading_first ws w e))
+      ∙ sofar
 
-  pub gather_stop : (n : ℕ) (ws : List ℕ) → n ≤ 16 → first_write ws ≡ None → take n table ++ leading ws ≡ whole → take n table ≡ take 16 whole
-  gather_stop n ws few e h =
-      let all : whole ≡ take n table = sym h ∙ ap (λ l. take n table ++ l) (leading_none ws e) ∙ append-nil (take n table) in
-      sym (ap (take 16) all ∙ take_all 16 (take n table) (omega (arith, length-take n table)))
+  -- no room for one more
+  pub gather_full : (w : Write) → has_room 16 l ≡ false → length l ≤ 16 → k ≡ inserted 16 l (length l) w → k ≡ take 16 whole
+  gather_full w room few f =
+      f ∙ ap (λ b. cond b (insert l (length l) w) l) room
+      ∙ sym (ap (take 16) (sym sofar) ∙ take_at l (leading ws) 16 (omega (arith, ltb-false (length l) 16 room)))
 
-  pub gather_full : (n : ℕ) (ws : List ℕ) → n ≡ 16 → take n table ++ leading ws ≡ whole → take 16 table ≡ take 16 whole
-  gather_full n ws full h =
-      sym (ap (take 16) (sym h) ∙ ap (λ k. take 16 (take k table ++ leading ws)) full ∙ take_at (take 16 table) (leading ws) 16 (omega (arith, length-take 16 table)))
+  -- none to come
+  pub gather_stop : first_write ws ≡ None → length l ≤ 16 → l ≡ take 16 whole
+  gather_stop e few =
+      sym (ap (take 16) (sym sofar ∙ ap (λ m. l ++ m) (leading_none ws e) ∙ append-nil l) ∙ take_all 16 l few)

@@ -1,8 +1,6 @@
 -- Lemmas that several proofs share.
-mod EditWalks
 pub mod EditWrites
 pub mod SlotLaws
-mod Filled
 mod LogFacts
 pub mod Spelt
 mod PageFacts

@@ -1,5 +1,5 @@
 -- The pages that a log has: words hold their numbers, since they hold those of every log.
-use Rattle.std.proofs.Common.{◌≡◌, ℕ, zero, suc, ◌+◌, ◌-◌, ◌<◌, ◌≤◌, Bool, true, false, cond, ltb, leb, List, [], ◌∷◌, length, Some, None, Option, sym, refl, ap, ◌∙◌, arith}
+use Rattle.std.proofs.Common.{◌≡◌, ℕ, zero, suc, ◌+◌, ◌-◌, ◌<◌, ◌≤◌, Bool, true, false, cond, ltb, leb, List, [], ◌∷◌, length, Some, None, Option, Result, sym, refl, ap, ◌∙◌, arith}
 use Rattle.std.specs.Option.{option_map}
 use Rattle.std.specs.List.{slice_get}
 use Rattle.std.proofs.lemmas.Bool.{and_parts, and_from, le-leb, leb-true, lt-ltb, ltb-true}
@@ -7,14 +7,17 @@ use Rattle.words.specs.declared.changes.Write.{Write}
 use Rattle.words.specs.Bits.{in_range, every}
 use Rattle.words.specs.Writes.{all_fit}
 use Rattle.words.specs.Pages.{PageValue, an_entry, a_closing, has_words, page_words}
-use Rattle.words.specs.Encoded.{wrote, refused, put_answer, put_after}
+use Rattle.words.specs.declared.encode.Refusal.{Refusal as WordsRefusal}
+use Rattle.words.specs.Encoded.{reply, put_answer, put_after}
 use Rattle.logs.specs.declared.heads.EntryHead.{EntryHead}
 use Rattle.logs.specs.LogModel.{Entry, LogModel, Bounded, all_within, all_fit as log-fit, all_loggable, last_version, entry_at, head_of}
 use Rattle.site.specs.Calls.{writes_in}
 use Rattle.site.specs.CatchUp.{page_after, page_at}
+use Rattle.site.specs.declared.refusals.Refusal.{Refusal}
+use Rattle.site.specs.Modes.{reply as call_reply}
 use Rattle.site.specs.Spelling.{spelt}
 use Rattle.site.proofs.LogFacts.{loggable_at}
-use Rattle.site.proofs.Spelt.{spelt_ok, spelt_err}
+use Rattle.site.proofs.Spelt.{as_call, spelt_as}
 
 held : (x : ℕ) → x ≤ 268435455 → in_range 0 x ≡ true
 held x b = and_from _ _ (le-leb 0 x (omega arith)) (lt-ltb x 268435456 (omega arith))
@@ -104,9 +107,7 @@ entry_held l h v t b i j k =
     and_from _ _ (lt-ltb h 16 i) (and_from _ _ (held v k) (and_from _ _ (held t j) (and_from _ _ w.0 w.1)))
 
 -- a page as it is handed to its writer, where words hold the page that it is
-module _ (p q : PageValue) (same : p ≡ q) (fits : has_words q ≡ true) (out after : List ℕ) (f : after ≡ put_after (has_words p) (page_words p) out) where
-  pub page_ok : (k : ℕ) → wrote k ≡ put_answer (has_words p) (page_words p) out → (Some k, after) ≡ spelt (page_words q) out
-  page_ok k e = spelt_ok (has_words p) (page_words p) out after (ap has_words same ∙ fits) f k e ∙ ap (λ x. spelt (page_words x) out) same
-
-  pub page_err : (k : ℕ) → refused k ≡ put_answer (has_words p) (page_words p) out → (None, after) ≡ spelt (page_words q) out
-  page_err k e = spelt_err (has_words p) (page_words p) out after (ap has_words same ∙ fits) f k e ∙ ap (λ x. spelt (page_words x) out) same
+pub page_spelt : (p q : PageValue) (r : Result ℕ WordsRefusal) (s : Result ℕ Refusal) (out after : List ℕ) → p ≡ q → has_words q ≡ true → as_call r ≡ s →
+    reply r ≡ put_answer (has_words p) (page_words p) out → after ≡ put_after (has_words p) (page_words p) out → (call_reply (λ n. n) s, after) ≡ spelt (page_words q) out
+page_spelt p q r s out after same fits h e f =
+    spelt_as (has_words p) r s (page_words p) out after (ap has_words same ∙ fits) h e f ∙ ap (λ x. spelt (page_words x) out) same

@@ -1,6 +1,7 @@
 -- Pages taken into a log, and what a site makes of it.
-use Rattle.std.proofs.Common.{◌≡◌, ℕ, ◌+◌, ◌<◌, ◌≤◌, Bool, true, false, cond, not, ◌&&◌, leb, List, [], ◌∷◌, length, get_or, drop, is_some, IsErrAnd, Some, None, Ok, Err, Option, Result, sym, refl, ap, ◌∙◌, arith}
-use Rattle.std.proofs.lemmas.List.{at_drop_more, at_drop_all}
+use Rattle.std.proofs.Common.{◌≡◌, ℕ, ◌<◌, ◌≤◌, Bool, true, false, cond, not, ◌&&◌, leb, List, [], ◌∷◌, length, is_some, IsErrAnd, Some, None, Ok, Err, Option, Result, sym, refl, ap, ◌∙◌, arith}
+use Rattle.std.specs.List.{list_all, zip}
+use Rattle.std.specs.Option.{ok_or}
 use Rattle.words.specs.Pages.{PageValue, an_entry, a_closing, page_of}
 use Rattle.logs.specs.LogModel.{LogModel, Entry, a_log, appended, held, mark_cleared, marks, can_copy, copied}
 use Rattle.site.specs.declared.modes.Mode.{Mode}
@@ -12,18 +13,23 @@ use Rattle.site.specs.Slots.{all_empty}
 use Rattle.site.specs.SiteModel.{SiteModel, with_log}
 use Rattle.site.specs.Calls.{Answer, Declined, Take, is_down, told, by_table, called}
 
--- the numbers from place i on, by the pair there
-module _ (old new : List ℕ) (i : ℕ) (within : i < length old) where
-  pub covers_short : length new ≤ i → covers (drop i old) (drop i new) ≡ false
-  covers_short past =
-      at_drop_all (covers (drop i old)) new i past ∙ at_drop_more (λ l. covers l []) old i 0 within
+-- the numbers beside each other as pairs
+abbrev pub pair_covered : ℕ × ℕ → Bool
+pair_covered p = leb p.0 p.1
 
-  pub covers_more : i < length new → covers (drop i old) (drop i new) ≡ (leb (get_or old i 0) (get_or new i 0) && covers (drop (i + 1) old) (drop (i + 1) new))
-  covers_more more =
-      at_drop_more (λ l. covers l (drop i new)) old i 0 within ∙ at_drop_more (λ l. covers (get_or old i 0 ∷ drop (i + 1) old) l) new i 0 more
+pub covers_pairs : (old new : List ℕ) → length old ≤ length new → list_all pair_covered (zip old new) ≡ covers old new
+covers_pairs [] new h = refl
+covers_pairs (k ∷ ks) [] h = absurd (omega arith)
+covers_pairs (k ∷ ks) (j ∷ js) h = ap (λ b. leb k j && b) (covers_pairs ks js (omega arith))
 
-pub covers_all : (old new : List ℕ) (i : ℕ) → length old ≤ i → covers (drop i old) new ≡ true
-covers_all old new i past = at_drop_all (λ l. covers l new) old i past
+pub covers_short : (old new : List ℕ) → length new < length old → covers old new ≡ false
+covers_short [] new h = absurd (omega arith)
+covers_short (k ∷ ks) [] h = refl
+covers_short (k ∷ ks) (j ∷ js) h = ap (λ b. leb k j && b) (covers_short ks js (omega arith)) ∙ and_false (leb k j)
+  where
+    and_false : (b : Bool) → (b && false) ≡ false
+    and_false true = refl
+    and_false false = refl
 
 -- a page into a log, by whether it follows and by whether there is room
 abbrev Entered : Type 0
@@ -64,6 +70,11 @@ not_down Partial j o h = refl
 not_down Down j None h = absurd (let z : ◌≡◌ {A = ℕ} 0 1 = cc in omega arith)
 not_down Down j (Some (an_entry x v t ws)) h = absurd (let z : ◌≡◌ {A = ℕ} 0 1 = cc in omega arith)
 not_down Down j (Some (a_closing v d ks)) h = absurd (let z : ◌≡◌ {A = ℕ} 0 1 = cc in omega arith)
+
+-- what is there where its lack would be an error
+pub some_from_ok : {A : Type 0} (o : Option A) (e : Refusal) (x : A) → ok_or o e ≡ Ok x → o ≡ Some x
+some_from_ok None e x h = absurd (let z : ◌≡◌ {A = ℕ} 0 1 = cc in omega arith)
+some_from_ok (Some y) e x h = let q : y ≡ x = cc in ap (λ z. Some z) q
 
 -- an error that is handed on
 pub handed_on : {A : Type 0} (f : A → Answer) (r : Result A Refusal) (e : Refusal) → IsErrAnd r (λ x. x ≡ e) → told f r ≡ Declined (refusal_number e)

@@ -19,8 +19,7 @@ use Rattle.site.specs.declared.site.changes.Stepped.TheVariants as stepped-kind
 use Rattle.site.specs.Modes.{refusal_number}
 use Rattle.site.specs.declared.handles.Posted.{Posted}
 use Rattle.site.specs.declared.handles.Draft.{Draft}
-use Rattle.site.specs.declared.site.posts.Sent.{Sent as SentKind}
-use Rattle.site.specs.declared.site.posts.Sent.TheVariants as sent-kind
+use Rattle.site.specs.declared.site.posts.Sent.{Sent as SentParts}
 use Rattle.site.specs.declared.site.posts.Answered.{Answered}
 use Rattle.site.specs.declared.site.posts.Answered.TheVariants as answered-kind
 use Rattle.site.specs.Handles.{a_handle, draft_handle, posted_handle}
@@ -311,12 +310,17 @@ PostedBack p (Ok (answered-kind.Decided d)) = Unit {0}
 PostedBack p (Err e) = e.1 ≡ p
 
 -- Post: the words are those that stand at the buffer's front afterwards; a refusal gives the draft back.
-abbrev pub posting : Handle → List ℕ → Result SentKind (Refusal × Draft) → Answer
-posting h out (Ok sent-kind.ReadOnly) = ReadOnly
-posting h out (Ok (sent-kind.Words p n)) = Sent (posted_handle p) (take n out)
+abbrev pub posting : Handle → List ℕ → Result (Option SentParts) (Refusal × Draft) → Answer
+posting h out (Ok None) = ReadOnly
+posting h out (Ok (Some s)) = Sent (posted_handle s.posted) (take s.count out)
 posting h out (Err e) = given_back (same_handle (draft_handle e.1) h) (Declined (refusal_number e.0))
 
-abbrev pub DraftBack : Draft → Result SentKind (Refusal × Draft) → Type 0
+-- The same of a draft's handle, by how many words were written, if any were to be.
+abbrev pub sending : Handle → List ℕ → Option ℕ → Answer
+sending h out None = ReadOnly
+sending h out (Some n) = Sent h (take n out)
+
+abbrev pub DraftBack : Draft → Result (Option SentParts) (Refusal × Draft) → Type 0
 DraftBack d (Ok s) = Unit {0}
 DraftBack d (Err e) = e.1 ≡ d
 

@@ -1,9 +1,8 @@
 -- An edit: its ticket, its snapshot, and its writes by rising item, one to an item.
-use Rattle.std.specs.Prelude.{◌≡◌, ℕ, suc, ◌<◌, Bool, true, false, cond, List, [], ◌∷◌, length, take, pos, Some, None, Option, ◌==◌, nat_le, nat_lt, slice_index_or}
+use Rattle.std.specs.Prelude.{ℕ, Bool, true, false, cond, List, [], ◌∷◌, length, Some, None, Option, ◌==◌, nat_le, nat_lt}
+use Rattle.few.specs.Lists.{few_items}
 use Rattle.words.specs.declared.changes.Change.{Change}
-use Rattle.words.specs.declared.changes.Change.TheVariants.{Set}
 use Rattle.words.specs.declared.changes.Write.{Write}
-use Rattle.words.specs.Writes.{a_write}
 use Rattle.site.specs.declared.edits.Edit.{Edit}
 
 pub record EditModel : Type 0 where
@@ -15,7 +14,7 @@ abbrev pub an_edit_of : ℕ → ℕ → List Write → EditModel
 an_edit_of t s l = record { ticket = t; snapshot = s; writes = l }
 
 abbrev pub edit_model : Edit → EditModel
-edit_model e = an_edit_of e.ticket e.snapshot (take e.count e.writes)
+edit_model e = an_edit_of e.ticket e.snapshot (few_items e.writes)
 
 -- The edit's own change of an item, if it has one.
 abbrev pub own_change : List Write → ℕ → Option Change
@@ -27,20 +26,6 @@ abbrev pub with_write : List Write → Write → List Write
 with_write [] w = w ∷ []
 with_write (x ∷ l) w =
     cond (x.item == w.item) (w ∷ l) (cond (nat_lt w.item x.item) (w ∷ (x ∷ l)) (x ∷ with_write l w))
-
--- How many of the writes are to lower items.
-abbrev pub rank : List Write → ℕ → ℕ
-rank [] x = 0
-rank (w ∷ l) x = cond (nat_lt w.item x) (suc (rank l x)) 0
-
--- A write that stands for none, where a table is read past its end.
-abbrev pub blank : Write
-blank = a_write 0 (Set (pos 0))
-
--- The edit's write at a place is to the item.
-pub record HasAt (e : Edit) (place x : ℕ) : Type 0 where
-  pub within : place < e.count
-  pub same : (slice_index_or e.writes place blank).item ≡ x
 
 -- The edit with one write set or replaced: at most 16 items, and as it was where this would be the seventeenth.
 abbrev pub rewritten : EditModel → Write → EditModel

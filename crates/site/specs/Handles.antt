@@ -8,7 +8,7 @@ abbrev pub a_handle : ℕ → ℕ → ℕ → Handle
 a_handle i k t = record { site = i; slot = k; ticket = t }
 
 abbrev pub draft_handle : Draft → Handle
-draft_handle d = a_handle d.site d.slot d.ticket
+draft_handle d = d.0
 
 abbrev pub posted_handle : Posted → Handle
-posted_handle p = a_handle p.site p.slot p.ticket
+posted_handle p = p.0

@@ -1,5 +1,7 @@
 -- The numbers of the refusals, and what mode and event decide together.
 use Rattle.std.specs.Prelude.{ℕ, Bool, cond, Ok, Err, Result}
+use Rattle.words.specs.declared.encode.Refusal.{Refusal as WordsRefusal}
+use Rattle.words.specs.declared.encode.Refusal.TheVariants as words-refusal
 use Rattle.site.specs.declared.modes.Mode.{Mode}
 use Rattle.site.specs.declared.modes.Mode.TheVariants.{Whole, Partial, Down}
 use Rattle.site.specs.declared.modes.Event.{Event}
@@ -28,6 +30,11 @@ refusal_number WrongPage = 17
 refusal_number VersionAhead = 18
 refusal_number VersionTrimmed = 19
 refusal_number NotFresh = 20
+
+-- Why no words were written, as a call's refusal.
+abbrev pub unwritten : WordsRefusal → Refusal
+unwritten words-refusal.OutOfRange = OutOfRange
+unwritten words-refusal.TooShort = ShortBuffer
 
 -- What a call answers: a value, or a refusal by its number.
 pub data Reply (A : Type 0) : Type 0 where

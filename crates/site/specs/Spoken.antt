@@ -10,10 +10,11 @@ use Rattle.site.specs.declared.calls.Shown.{Shown}
 use Rattle.site.specs.declared.modes.Mode.{Mode}
 use Rattle.site.specs.declared.refusals.Refusal.{Refusal}
 use Rattle.site.specs.Modes.{refusal_number}
+use Rattle.few.specs.Lists.{few_items}
 use Rattle.site.specs.Slots.{all_empty}
 use Rattle.site.specs.SiteModel.{SiteModel}
 use Rattle.site.specs.Making.{is_fresh_store, is_fresh_log}
-use Rattle.site.specs.Calls.{Call, Begin, Read, Look, Put, Post, GiveUp, Outcome, LetGo, Deliver, Step, Report, Page, Take, Trim, Prune, Crash, Wake, Answer, Declined, Drafted, Value, Done, ReadOnly, Sent, Pending, Told, Wrote, Woken, is_whole, step_answer, landed}
+use Rattle.site.specs.Calls.{Call, Begin, Read, Look, Put, Post, GiveUp, Outcome, LetGo, Deliver, Step, Report, Page, Take, Trim, Prune, Crash, Wake, Answer, Declined, Drafted, Value, Done, ReadOnly, Sent, Pending, Told, Wrote, Woken, is_whole, step_answer}
 
 -- The call that a request is, with the words handed in and the room of the buffer.
 abbrev pub asked : Request → List ℕ → ℕ → Call
@@ -49,11 +50,6 @@ heard (Ok (response.Stepped s)) out = step_answer s
 heard (Ok (response.Wrote n)) out = Wrote (take n out)
 heard (Ok (response.Woken k)) out = Woken k
 
--- A call that writes no words: what it answers and leaves, with any buffer left as it was.
-pub record Spoken (r : Result Response Refusal) (m : SiteModel) (p : Answer × SiteModel) : Type 0 where
-  pub is : (out : List ℕ) → ◌≡◌ {A = Answer × SiteModel} (heard r out, m) p
-  pub silent : (out : List ℕ) → landed p.0 out ≡ out
-
 -- What a site shows of itself in any mode.
 abbrev pub shown : SiteModel → Mode × ℕ × ℕ × ℕ × ℕ × ℕ × ℕ × List ℕ × ℕ
 shown m =
@@ -61,7 +57,7 @@ shown m =
 
 abbrev pub shown_as : Shown → Mode × ℕ × ℕ × ℕ × ℕ × ℕ × ℕ × List ℕ × ℕ
 shown_as s =
-    (s.mode, s.version, s.sealed, s.staged, s.floor, s.last, s.place, take s.sites s.known, s.tickets)
+    (s.mode, s.version, s.sealed, s.staged, s.floor, s.last, s.place, few_items s.known, s.tickets)
 
 -- Whether mode, slots and change are those of a site that nothing has happened to.
 abbrev pub is_idle : SiteModel → Bool

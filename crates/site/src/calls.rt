@@ -1,18 +1,18 @@
 // A site as its callers see it: by its model only, whatever its store and its log are.
 ghost use Rattle.std.specs.Prelude.{◌≡◌, length};
 ghost use Rattle.site.specs.SiteModel.{SiteModel, site_model};
-ghost use Rattle.site.specs.Calls.{called, landed, Read, Put, Post, Outcome};
-ghost use Rattle.site.specs.Spoken.{asked, heard, Spoken, shown, shown_as, is_new, Bounded};
+ghost use Rattle.site.specs.Calls.{called, landed};
+ghost use Rattle.site.specs.Spoken.{asked, heard, shown, shown_as, is_new, Bounded};
 ghost use Rattle.site.specs.SiteBounds.{site_bounded};
 
 use crate::gather::known_of;
-use crate::handles::{Draft, Handle, Posted};
+use crate::handles::{Draft, Handle};
 use crate::modes::Mode;
 use crate::refusals::Refusal;
 use crate::site::Site;
 use crate::site::changes::Stepped;
-use crate::site::posts::{Answered, Sent};
 use account::decisions::Decision;
+use few::Few;
 use logs::api::Log;
 use store::api::Store;
 use words::changes::Write;
@@ -55,7 +55,7 @@ pub enum Response {
     Woken(Mode),
 }
 
-/// What a site shows of itself: the first `sites` of the known numbers count.
+/// What a site shows of itself.
 #[derive(Clone, Copy)]
 pub struct Shown {
     pub mode: Mode,
@@ -65,8 +65,7 @@ pub struct Shown {
     pub floor: u32,
     pub last: u32,
     pub place: u32,
-    pub known: [u32; 8],
-    pub sites: usize,
+    pub known: Few<u32, 8>,
     pub tickets: u32,
 }
 
@@ -96,58 +95,6 @@ pub trait Calls {
     ghost bounded: { (s : Self) → Bounded (model s) };
 }
 
-// Calls of a draft or a posted edit, by the numbers of its handle.
-impl<S: Store, L: Log> Site<S, L> {
-    fn read_by(&self, handle: Handle, item: u32) -> Result<Response, Refusal>
-        ensures { Spoken result (site_model S.Store.model L.Log.model self.now) (called (site_model S.Store.model L.Log.model self.now) (Read handle item)) }
-    {
-        let draft = Draft::of(handle);
-        let read = self.read(&draft, item);
-        draft.into_handle();
-        Ok(Response::Value(read?))
-    }
-
-    fn put_by(&mut self, handle: Handle, write: Write) -> Result<Response, Refusal>
-        ensures { Spoken result (site_model S.Store.model L.Log.model self.new) (called (site_model S.Store.model L.Log.model self.old) (Put handle write)) }
-    {
-        let draft = Draft::of(handle);
-        let written = self.write(&draft, write);
-        draft.into_handle();
-        written?;
-        Ok(Response::Done)
-    }
-
-    fn outcome_by(&mut self, handle: Handle) -> Result<Response, Refusal>
-        ensures { Spoken result (site_model S.Store.model L.Log.model self.new) (called (site_model S.Store.model L.Log.model self.old) (Outcome handle)) }
-    {
-        match self.outcome(Posted::of(handle)) {
-            Ok(Answered::Decided(decision)) => Ok(Response::Told(decision)),
-            Ok(Answered::Pending(posted)) => {
-                posted.into_handle();
-                Ok(Response::Pending)
-            }
-            Err((refusal, posted)) => {
-                posted.into_handle();
-                Err(refusal)
-            }
-        }
-    }
-
-    fn post_by(&mut self, handle: Handle, out: &mut [u32]) -> Result<Response, Refusal>
-        ensures answered { (heard result out.new, site_model S.Store.model L.Log.model self.new) ≡ called (site_model S.Store.model L.Log.model self.old) (Post handle (length out.old)) }
-        ensures buffer { out.new ≡ landed (heard result out.new) out.old }
-    {
-        match self.post(Draft::of(handle), out) {
-            Ok(Sent::ReadOnly) => Ok(Response::ReadOnly),
-            Ok(Sent::Words(posted, count)) => Ok(Response::Sent(posted.into_handle(), count)),
-            Err((refusal, draft)) => {
-                draft.into_handle();
-                Err(refusal)
-            }
-        }
-    }
-}
-
 impl<S: Store, L: Log> Calls for Site<S, L> {
     ghost model = { site_model S.Store.model L.Log.model };
 
@@ -158,7 +105,6 @@ impl<S: Store, L: Log> Calls for Site<S, L> {
     }
 
     fn show(&self) -> Shown {
-        let (known, sites) = known_of(&self.log);
         Shown {
             mode: self.mode,
             version: self.store.version(),
@@ -167,8 +113,7 @@ impl<S: Store, L: Log> Calls for Site<S, L> {
             floor: self.log.floor(),
             last: self.log.last(),
             place: self.log.place(),
-            known,
-            sites,
+            known: known_of(&self.log),
             tickets: self.log.tickets(),
         }
     }
@@ -180,18 +125,30 @@ impl<S: Store, L: Log> Calls for Site<S, L> {
         out: &mut [u32],
     ) -> Result<Response, Refusal> {
         Ok(match request {
-            Request::Begin => Response::Drafted(self.begin()?.into_handle()),
-            Request::Read(draft, item) => self.read_by(draft, item)?,
+            Request::Begin => {
+                let Draft(handle) = self.begin()?;
+                Response::Drafted(handle)
+            }
+            Request::Read(handle, item) => Response::Value(self.read_by(handle, item)?),
             Request::Look(item) => Response::Value(self.look(item)?),
-            Request::Put(draft, write) => self.put_by(draft, write)?,
-            Request::Post(draft) => self.post_by(draft, out)?,
-            Request::GiveUp(draft) => {
-                self.give_up(Draft::of(draft));
+            Request::Put(handle, write) => {
+                self.write_by(handle, write)?;
                 Response::Done
             }
-            Request::Outcome(posted) => self.outcome_by(posted)?,
-            Request::LetGo(posted) => {
-                self.let_go(Posted::of(posted));
+            Request::Post(handle) => match self.post_by(handle, out)? {
+                Some(count) => Response::Sent(handle, count),
+                None => Response::ReadOnly,
+            },
+            Request::GiveUp(handle) => {
+                self.give_up_by(handle);
+                Response::Done
+            }
+            Request::Outcome(handle) => match self.outcome_by(handle)? {
+                Some(decision) => Response::Told(decision),
+                None => Response::Pending,
+            },
+            Request::LetGo(handle) => {
+                self.let_go_by(handle);
                 Response::Done
             }
             Request::Deliver(place) => Response::Told(self.deliver(place, words)?),

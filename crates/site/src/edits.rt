@@ -1,7 +1,9 @@
 // The writes that an edit has gathered.
-ghost use Rattle.std.specs.Prelude.{◌≡◌, ◌<◌, ◌≤◌, true, length, take};
+ghost use Rattle.std.specs.Prelude.{◌≡◌, ◌<◌, ◌≤◌, true};
+ghost use Rattle.few.specs.Lists.{few_items};
 ghost use Rattle.words.specs.Writes.{fit_from};
 
+use few::Few;
 use words::changes::Write;
 
 pub mod ops;
@@ -11,12 +13,9 @@ pub mod ops;
 pub struct Edit {
     pub(crate) ticket: u32,
     pub(crate) snapshot: u32,
-    count: usize,
-    writes: [Write; 16],
+    writes: Few<Write, 16>,
     ghost ticketed: { 0 < ticket },
     ghost ticket_fits: { ticket ≤ 268435455 },
     ghost snapshot_fits: { snapshot ≤ 268435455 },
-    ghost few: { count ≤ 16 },
-    ghost table: { length writes ≡ 16 },
-    ghost orderly: { fit_from 0 (take count writes) ≡ true },
+    ghost orderly: { fit_from 0 (few_items writes) ≡ true },
 }

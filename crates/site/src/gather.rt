@@ -1,10 +1,12 @@
-// Writes and known numbers, from words or from a log, gathered into tables.
-ghost use Rattle.std.specs.Prelude.{◌≡◌, ◌≤◌, map, length, take};
+// Writes and known numbers, from words or from a log, gathered into short lists.
+ghost use Rattle.std.specs.Prelude.{◌≡◌, map, take};
+ghost use Rattle.few.specs.Lists.{few_items};
 ghost use Rattle.words.specs.Bits.{load_of};
 ghost use Rattle.words.specs.Writes.{leading};
 ghost use Rattle.logs.specs.LogModel.{entry_at};
 ghost use Rattle.site.specs.Calls.{writes_in};
 
+use few::Few;
 use logs::api::Log;
 use words::changes::{Change, Write, read_write};
 use words::pages::known_number;
@@ -15,69 +17,42 @@ const NONE: Write = Write {
     change: Change::Remove,
 };
 
-// The writes that the words begin with, at most 16, and how many they are.
-pub(crate) fn gather(words: &[u32]) -> ([Write; 16], usize)
-    ensures few { result.1 ≤ 16 }
-    ensures table { length result.0 ≡ 16 }
-    ensures writes { take result.1 result.0 ≡ take 16 (leading words.now) }
+// The writes that the words begin with, at most 16.
+pub(crate) fn gather(words: &[u32]) -> Few<Write, 16>
+    ensures { few_items result ≡ take 16 (leading words.now) }
 {
-    let mut writes = [NONE; 16];
+    let mut writes = Few::new(NONE);
     let mut rest = words;
-    for count in 0..16usize {
-        let (found, after) = read_write(rest);
-        let Some(write) = found else {
-            return (writes, count);
-        };
-        writes[count] = write;
+    while let (Some(write), after) = read_write(rest) {
+        if writes.push(write).is_err() {
+            return writes;
+        }
         rest = after;
     }
-    (writes, 16)
+    writes
 }
 
-// The writes of a version's entry, and how many they are; none where there is no entry.
-pub(crate) fn gather_entry<L: Log>(log: &L, version: u32) -> ([Write; 16], usize)
-    ensures few { result.1 ≤ 16 }
-    ensures table { length result.0 ≡ 16 }
-    ensures writes { take result.1 result.0 ≡ writes_in (entry_at (L.Log.model log.now) version) }
+// The writes of a version's entry; none where there is no entry.
+pub(crate) fn gather_entry<L: Log>(log: &L, version: u32) -> Few<Write, 16>
+    ensures { few_items result ≡ writes_in (entry_at (L.Log.model log.now) version) }
 {
-    let mut writes = [NONE; 16];
-    for count in 0..16usize {
-        let Some(write) = log.write(version, count as u32) else {
-            return (writes, count);
-        };
-        writes[count] = write;
-    }
-    (writes, 16)
+    Few::gather(
+        NONE,
+        |number| log.write(version, u32::try_from(number).ok()?),
+    )
 }
 
-// The known numbers that the words say, at most 8, and how many they are.
-pub(crate) fn gather_known(words: &[u32]) -> ([u32; 8], usize)
-    ensures few { result.1 ≤ 8 }
-    ensures table { length result.0 ≡ 8 }
-    ensures numbers { take result.1 result.0 ≡ take 8 (map load_of words.now) }
+// The known numbers that the words say, at most 8.
+pub(crate) fn gather_known(words: &[u32]) -> Few<u32, 8>
+    ensures { few_items result ≡ take 8 (map load_of words.now) }
 {
-    let mut numbers = [0u32; 8];
-    for count in 0..8usize {
-        if count >= words.len() {
-            return (numbers, count);
-        }
-        numbers[count] = known_number(words[count]);
-    }
-    (numbers, 8)
+    let numbers = Few::<u32, 8>::from_slice(0, words);
+    Few::gather(0, |place| Some(known_number(numbers.get(place)?)))
 }
 
-// The known numbers of a log, and how many they are.
-pub(crate) fn known_of<L: Log>(log: &L) -> ([u32; 8], usize)
-    ensures few { result.1 ≤ 8 }
-    ensures table { length result.0 ≡ 8 }
-    ensures numbers { take result.1 result.0 ≡ (L.Log.model log.now).known }
+// The known numbers of a log.
+pub(crate) fn known_of<L: Log>(log: &L) -> Few<u32, 8>
+    ensures { few_items result ≡ (L.Log.model log.now).known }
 {
-    let mut numbers = [0u32; 8];
-    for count in 0..8usize {
-        let Some(number) = log.known(count as u32) else {
-            return (numbers, count);
-        };
-        numbers[count] = number;
-    }
-    (numbers, 8)
+    Few::gather(0, |site| log.known(u32::try_from(site).ok()?))
 }

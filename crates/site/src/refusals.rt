@@ -1,6 +1,9 @@
 // Why a call is declined: the table of refusals.
 ghost use Rattle.std.specs.Prelude.{◌≡◌};
-ghost use Rattle.site.specs.Modes.{refusal_number};
+ghost use Rattle.site.specs.declared.refusals.Refusal.TheVariants.{TooManyItems};
+ghost use Rattle.site.specs.Modes.{refusal_number, unwritten};
+
+use few::Full;
 
 /// Why a call is declined. Each has its number in the table of refusals.
 #[derive(Clone, Copy, PartialEq, Eq, Debug)]
@@ -25,6 +28,25 @@ pub enum Refusal {
     VersionAhead,
     VersionTrimmed,
     NotFresh,
+}
+
+impl From<words::encode::Refusal> for Refusal {
+    ghost from_gives = { λ e r. r ≡ unwritten e };
+
+    fn from(refusal: words::encode::Refusal) -> Refusal {
+        match refusal {
+            words::encode::Refusal::OutOfRange => Refusal::OutOfRange,
+            words::encode::Refusal::TooShort => Refusal::ShortBuffer,
+        }
+    }
+}
+
+impl From<Full> for Refusal {
+    ghost from_gives = { λ _ r. r ≡ TooManyItems };
+
+    fn from(_full: Full) -> Refusal {
+        Refusal::TooManyItems
+    }
 }
 
 impl Refusal {

@@ -1,50 +1,11 @@
 // What is asked of an edit's writes, and the one change to them.
-ghost use Rattle.std.specs.Prelude.{◌≡◌, ◌+◌, ◌-◌, ◌<◌, ◌≤◌, true, false, [], ◌++◌, length, take, drop, ◌==◌};
+ghost use Rattle.std.specs.Prelude.{◌≡◌, ◌<◌, ◌≤◌, true, [], length, ◌==◌, is_ok};
 ghost use Rattle.words.specs.Writes.{write_fits};
-ghost use Rattle.site.specs.Edits.{an_edit_of, edit_model, own_change, rank, HasAt, put_write};
+ghost use Rattle.site.specs.Edits.{an_edit_of, edit_model, own_change, put_write};
 
 use super::Edit;
+use few::{Few, Full};
 use words::changes::{Change, Write};
-
-// The change of the item among the writes, if there is one.
-fn find_change(writes: &[Write], item: u32) -> Option<Change>
-    ensures { result ≡ own_change writes.now item }
-{
-    for write in writes {
-        if write.item == item {
-            return Some(write.change);
-        }
-    }
-    None
-}
-
-// How many of the writes, from the first on, are to lower items.
-fn count_lower(writes: &[Write], item: u32) -> usize
-    ensures value { result ≡ rank writes.now item }
-    ensures within { result ≤ length writes.now }
-{
-    for (i, write) in writes.iter().enumerate() {
-        if item <= write.item {
-            return i;
-        }
-    }
-    writes.len()
-}
-
-// The writes with those from `place` on, up to `count`, one place further.
-fn open_gap(writes: [Write; 16], place: usize, count: usize) -> [Write; 16]
-    requires place { place ≤ count }
-    requires count { count < 16 }
-    requires sixteen { length writes ≡ 16 }
-    ensures moved { result ≡ take (place + 1) writes ++ (take (count - place) (drop place writes) ++ drop (count + 1) writes) }
-    ensures sixteen { length result ≡ 16 }
-{
-    let mut wider = writes;
-    for i in place..count {
-        wider[i + 1] = writes[i];
-    }
-    wider
-}
 
 impl Edit {
     /// An edit that has written nothing yet.
@@ -61,8 +22,7 @@ impl Edit {
         Edit {
             ticket,
             snapshot,
-            count: 0,
-            writes: [none; 16],
+            writes: Few::new(none),
         }
     }
 
@@ -70,48 +30,38 @@ impl Edit {
     pub(crate) fn writes(&self) -> &[Write]
         ensures { result.now ≡ (edit_model self.now).writes }
     {
-        &self.writes[0..self.count]
+        self.writes.as_slice()
     }
 
     /// The edit's own change of an item, if it has one.
     pub(crate) fn own(&self, item: u32) -> Option<Change>
         ensures { result ≡ own_change (edit_model self.now).writes item }
     {
-        find_change(self.writes(), item)
+        let own = self.writes().iter().find(|write| write.item == item)?;
+        Some(own.change)
     }
 
     /// Whether nothing is written yet.
     pub(crate) fn is_empty(&self) -> bool
         ensures { result ≡ (length (edit_model self.now).writes == 0) }
     {
-        self.count == 0
+        self.writes.is_empty()
     }
 
-    // Whether the write at that place is to the item.
-    fn has_at(&self, place: usize, item: u32) -> bool
-        ensures there { result ≡ true → HasAt self.now place item }
-        ensures elsewhere { result ≡ false → HasAt self.now place item → ⊥ }
-    {
-        place < self.count && self.writes[place].item == item
-    }
-
-    /// Sets or replaces the write of its item; false, with all as it was, where it would be the seventeenth.
-    pub(crate) fn put(&mut self, write: Write) -> bool
+    /// Sets or replaces the write of its item; leaves all as it was where it would be the seventeenth.
+    pub(crate) fn put(&mut self, write: Write) -> Result<(), Full>
         requires { write_fits 0 write ≡ true }
-        ensures { (result, edit_model self.new) ≡ put_write (edit_model self.old) write }
+        ensures { (is_ok result, edit_model self.new) ≡ put_write (edit_model self.old) write }
     {
-        let place = count_lower(self.writes(), write.item);
-        if self.has_at(place, write.item) {
-            self.writes[place] = write;
-            return true;
+        let place = self
+            .writes()
+            .binary_search_by_key(&write.item, |held| held.item);
+        match place {
+            Ok(place) => {
+                self.writes.replace(place, write);
+                Ok(())
+            }
+            Err(place) => self.writes.insert(place, write),
         }
-        if self.count == 16 {
-            return false;
-        }
-        let mut wider = open_gap(self.writes, place, self.count);
-        wider[place] = write;
-        self.writes = wider;
-        self.count += 1;
-        true
     }
 }

@@ -1,6 +1,6 @@
-// Calls of a draft: it begins, reads, writes and is given up. A look reads without one.
+// Calls of a draft: it begins, reads, writes and is given up. A look reads without one. What is by the handle alone is for
+// callers that have no more than its numbers; a made-up handle is no slot's.
 ghost use Rattle.std.specs.Prelude.{◌≡◌, ◌<◌, OnSome};
-ghost use Rattle.words.specs.Writes.{write_fits};
 ghost use Rattle.site.specs.Handles.{draft_handle};
 ghost use Rattle.site.specs.Slots.{edit_of};
 ghost use Rattle.site.specs.SiteModel.{site_model};
@@ -8,29 +8,14 @@ ghost use Rattle.site.specs.Calls.{called, told, drafted, Done, Drafted, Value, 
 
 use super::Site;
 use crate::edits::Edit;
-use crate::handles::Draft;
+use crate::handles::{Draft, Handle};
 use crate::modes::{Event, admit};
 use crate::refusals::Refusal;
 use crate::slots::Slot;
 use logs::api::Log;
 use store::api::Store;
-use words::changes::{Change, Write};
-
-// The largest item, version, place and ticket.
-const LIMIT: u32 = 268_435_455;
-
-// Whether item and value are in range.
-fn is_in_range(write: Write) -> bool
-    ensures { result ≡ write_fits 0 write }
-{
-    if write.item > LIMIT {
-        return false;
-    }
-    match write.change {
-        Change::Set(value) => -134_217_728 <= value && value <= 134_217_727,
-        Change::Remove => true,
-    }
-}
+use words::changes::{Change, Write, is_in_range};
+use words::limits::LIMIT;
 
 impl<S: Store, L: Log> Site<S, L> {
     /// Takes a ticket, opens the lowest empty slot with the store's version as its snapshot, and gives a draft.
@@ -38,9 +23,7 @@ impl<S: Store, L: Log> Site<S, L> {
         ensures { (told (λ d. Drafted (draft_handle d)) result, site_model S.Store.model L.Log.model self.new) ≡ called (site_model S.Store.model L.Log.model self.old) Begin }
     {
         admit(self.mode, Event::Begin)?;
-        let Some(slot) = self.slots.lowest_empty() else {
-            return Err(Refusal::NoSlot);
-        };
+        let slot = self.slots.lowest_empty().ok_or(Refusal::NoSlot)?;
         let tickets = self.log.tickets();
         if tickets >= LIMIT {
             return Err(Refusal::NoTicket);
@@ -49,22 +32,22 @@ impl<S: Store, L: Log> Site<S, L> {
         let ticket = tickets + 1;
         let edit = Edit::start(ticket, self.store.version());
         self.slots.put(slot, Slot::Open(edit));
-        Ok(Draft {
+        Ok(Draft(Handle {
             site: self.home.number,
             slot,
             ticket,
-        })
+        }))
     }
 
-    // The edit that the draft still has open here.
-    pub(crate) fn drafted<'a>(&'a self, draft: &Draft) -> Option<&'a Edit>
-        ensures is { edit_of result ≡ drafted (site_model S.Store.model L.Log.model self.now) (draft_handle draft.now) }
-        ensures within { OnSome result (draft.now.slot < 8) }
+    // The edit that the draft of the handle still has open here.
+    pub(crate) fn drafted(&self, handle: Handle) -> Option<&Edit>
+        ensures is { edit_of result ≡ drafted (site_model S.Store.model L.Log.model self.now) handle }
+        ensures within { OnSome result (handle.slot < 8) }
     {
-        if draft.site != self.home.number {
+        if handle.site != self.home.number {
             return None;
         }
-        self.slots.open_edit(draft.slot, draft.ticket)
+        self.slots.open_edit(handle.slot, handle.ticket)
     }
 
     /// The value of an item without a draft, at the store's version.
@@ -82,10 +65,14 @@ impl<S: Store, L: Log> Site<S, L> {
     pub fn read(&self, draft: &Draft, item: u32) -> Result<Option<i32>, Refusal>
         ensures { (told Value result, site_model S.Store.model L.Log.model self.now) ≡ called (site_model S.Store.model L.Log.model self.now) (Read (draft_handle draft.now) item) }
     {
+        self.read_by(draft.0, item)
+    }
+
+    pub(crate) fn read_by(&self, handle: Handle, item: u32) -> Result<Option<i32>, Refusal>
+        ensures { (told Value result, site_model S.Store.model L.Log.model self.now) ≡ called (site_model S.Store.model L.Log.model self.now) (Read handle item) }
+    {
         admit(self.mode, Event::Other)?;
-        let Some(edit) = self.drafted(draft) else {
-            return Err(Refusal::NotYours);
-        };
+        let edit = self.drafted(handle).ok_or(Refusal::NotYours)?;
         if item > LIMIT {
             return Err(Refusal::OutOfRange);
         }
@@ -100,21 +87,22 @@ impl<S: Store, L: Log> Site<S, L> {
     pub fn write(&mut self, draft: &Draft, write: Write) -> Result<(), Refusal>
         ensures { (told (λ _. Done) result, site_model S.Store.model L.Log.model self.new) ≡ called (site_model S.Store.model L.Log.model self.old) (Put (draft_handle draft.now) write) }
     {
+        self.write_by(draft.0, write)
+    }
+
+    pub(crate) fn write_by(&mut self, handle: Handle, write: Write) -> Result<(), Refusal>
+        ensures { (told (λ _. Done) result, site_model S.Store.model L.Log.model self.new) ≡ called (site_model S.Store.model L.Log.model self.old) (Put handle write) }
+    {
         admit(self.mode, Event::Other)?;
-        let Some(held) = self.drafted(draft) else {
-            return Err(Refusal::NotYours);
-        };
-        let mut edit = *held;
+        let mut edit = *self.drafted(handle).ok_or(Refusal::NotYours)?;
         if self.change.is_some() {
             return Err(Refusal::ChangeUnderWay);
         }
         if !is_in_range(write) {
             return Err(Refusal::OutOfRange);
         }
-        if !edit.put(write) {
-            return Err(Refusal::TooManyItems);
-        }
-        self.slots.put(draft.slot, Slot::Open(edit));
+        edit.put(write)?;
+        self.slots.put(handle.slot, Slot::Open(edit));
         Ok(())
     }
 
@@ -122,13 +110,15 @@ impl<S: Store, L: Log> Site<S, L> {
     pub fn give_up(&mut self, draft: Draft)
         ensures { (Done, site_model S.Store.model L.Log.model self.new) ≡ called (site_model S.Store.model L.Log.model self.old) (GiveUp (draft_handle draft)) }
     {
-        if self.drafted(&draft).is_some() {
-            self.slots.put(draft.slot, Slot::Empty);
+        let Draft(handle) = draft;
+        self.give_up_by(handle);
+    }
+
+    pub(crate) fn give_up_by(&mut self, handle: Handle)
+        ensures { (Done, site_model S.Store.model L.Log.model self.new) ≡ called (site_model S.Store.model L.Log.model self.old) (GiveUp handle) }
+    {
+        if self.drafted(handle).is_some() {
+            self.slots.put(handle.slot, Slot::Empty);
         }
-        let Draft {
-            site: _,
-            slot: _,
-            ticket: _,
-        } = draft;
     }
 }

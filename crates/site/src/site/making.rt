@@ -6,12 +6,14 @@ ghost use Rattle.site.specs.Making.{is_zero, is_fresh_store, is_fresh_log, makin
 ghost use Rattle.site.specs.Spoken.{is_idle, is_new};
 
 use super::Site;
+use crate::gather::known_of;
 use crate::home::Home;
 use crate::modes::Mode;
 use crate::refusals::Refusal;
 use crate::slots::Slots;
 use logs::api::Log;
 use store::api::Store;
+use words::limits::is_group;
 
 /// Why no site was made, and the store and the log that were handed in.
 #[derive(Drop)]
@@ -25,14 +27,7 @@ pub struct NotMade<S: Store, L: Log> {
 fn is_unknown<L: Log>(log: &L) -> bool
     ensures { result ≡ every is_zero (L.Log.model log.now).known }
 {
-    let mut site = 0;
-    while let Some(number) = log.known(site) {
-        if number != 0 {
-            return false;
-        }
-        site += 1;
-    }
-    true
+    known_of(log).as_slice().iter().all(|number| *number == 0)
 }
 
 fn is_fresh_store<S: Store>(store: &S) -> bool
@@ -73,12 +68,7 @@ impl<S: Store, L: Log> Site<S, L> {
         ensures { making S.Store.model L.Log.model result ≡ made_of S.Store.model L.Log.model number store log }
     {
         let sites = log.sites();
-        if sites < 2
-            || 8 < sites
-            || number >= sites
-            || !is_fresh_store(&store)
-            || !is_fresh_log(&log)
-        {
+        if !is_group(sites) || number >= sites || !is_fresh_store(&store) || !is_fresh_log(&log) {
             return Err(NotMade {
                 refusal: Refusal::NotFresh,
                 store,

@@ -22,15 +22,7 @@ use words::pages::{Page, read_page};
 fn is_covered(old: &[u32], new: &[u32]) -> bool
     ensures { result ≡ covers old.now new.now }
 {
-    for (i, number) in old.iter().enumerate() {
-        if new.len() <= i {
-            return false;
-        }
-        if new[i] < *number {
-            return false;
-        }
-    }
-    true
+    old.len() <= new.len() && old.iter().zip(new).all(|(old, new)| old <= new)
 }
 
 // The event that taking a page is; words that are no page are none of the mode's business.
@@ -48,8 +40,8 @@ fn take_event(page: Option<Page<'_>>) -> Event
 fn does_close<L: Log>(log: &L, version: u32, place: u32, known: &[u32]) -> bool
     ensures { result ≡ follows (L.Log.model log.now) (a_closing version place known.now) }
 {
-    let (old, sites) = known_of(log);
-    version == log.last() && log.place() <= place && is_covered(&old[0..sites], known)
+    let old = known_of(log);
+    version == log.last() && log.place() <= place && is_covered(old.as_slice(), known)
 }
 
 // Closes a log by a closing page, if it follows.
@@ -57,11 +49,11 @@ fn close_log<L: Log>(log: &mut L, version: u32, place: u32, known: &[u32]) -> Re
     requires { length known.now ≤ 8 }
     ensures { (reply (λ _. tt) result, L.Log.model log.new) ≡ page_entered (L.Log.model log.old) (a_closing version place (map load_of known.now)) }
 {
-    let (numbers, count) = gather_known(known);
-    if !does_close(log, version, place, &numbers[0..count]) {
+    let numbers = gather_known(known);
+    if !does_close(log, version, place, numbers.as_slice()) {
         return Err(Refusal::WrongPage);
     }
-    log.close(place, &numbers[0..count]);
+    log.close(place, numbers.as_slice());
     Ok(())
 }
 
@@ -79,8 +71,8 @@ fn copy_entry<L: Log>(
     if version != log.last() + 1 {
         return Err(Refusal::WrongPage);
     }
-    let (table, count) = gather(writes);
-    if !log.copy(site, ticket, &table[0..count]) {
+    let gathered = gather(writes);
+    if !log.copy(site, ticket, gathered.as_slice()) {
         return Err(Refusal::LogFull);
     }
     Ok(())
@@ -120,7 +112,7 @@ impl<S: Store, L: Log> Site<S, L> {
         if version < self.log.floor() {
             return Err(Refusal::VersionTrimmed);
         }
-        spell_page(&self.log, version, out).ok_or(Refusal::ShortBuffer)
+        spell_page(&self.log, version, out)
     }
 
     /// Takes a page that another site wrote: an entry makes the site partial, a closing page makes it whole.
@@ -132,9 +124,7 @@ impl<S: Store, L: Log> Site<S, L> {
         if !self.slots.are_empty() {
             return Err(Refusal::SlotsHeld);
         }
-        let Some(page) = read else {
-            return Err(Refusal::NoPage);
-        };
+        let page = read.ok_or(Refusal::NoPage)?;
         enter_page(&mut self.log, page)?;
         self.mode = mode;
         Ok(())

@@ -14,6 +14,7 @@ use account::decisions::Decision;
 use logs::api::Log;
 use store::api::Store;
 use words::changes::Write;
+use words::limits::LIMIT;
 use words::messages::{Message, read_message};
 
 // An edit of a snapshot and writes, by the log.
@@ -71,7 +72,7 @@ fn check_place(last: u32, place: u32) -> Result<(), Refusal>
     if place <= last {
         return Err(Refusal::PlaceDecided);
     }
-    if last + 1 < place || 268_435_455 < place {
+    if last + 1 < place || LIMIT < place {
         return Err(Refusal::PlaceAhead);
     }
     Ok(())
@@ -96,8 +97,8 @@ fn decide<L: Log>(log: &mut L, sites: u32, words: &[u32]) -> Result<Decision, Re
             snapshot,
             writes,
         } => {
-            let (table, count) = gather(writes);
-            enter(log, site, ticket, snapshot, &table[0..count])
+            let gathered = gather(writes);
+            enter(log, site, ticket, snapshot, gathered.as_slice())
         }
     }
 }
@@ -109,13 +110,9 @@ impl<S: Store, L: Log> Site<S, L> {
         ensures { (told Told result, site_model S.Store.model L.Log.model self.new) ≡ called (site_model S.Store.model L.Log.model self.old) (Deliver place words.now) }
     {
         admit(self.mode, Event::Deliver)?;
-        if let Err(refusal) = check_place(self.log.place(), place) {
-            return Err(refusal);
-        }
-        let decided = decide(&mut self.log, self.home.sites, words);
-        if let Ok(decision) = decided {
-            self.slots.settle(self.home, words, decision);
-        }
-        decided
+        check_place(self.log.place(), place)?;
+        let decision = decide(&mut self.log, self.home.sites, words)?;
+        self.slots.settle(self.home, words, decision);
+        Ok(decision)
     }
 }

@@ -1,11 +1,12 @@
-// Calls of a posted edit, and the words that a site sends: post, outcome, let go, report.
+// Calls of a posted edit, and the words that a site sends: post, outcome, let go, report. What is by the handle
+// alone is for callers that have no more than its numbers; a made-up handle is no slot's.
 ghost use Rattle.std.specs.Prelude.{◌≡◌, ◌<◌, T, length};
 ghost use Rattle.site.specs.Handles.{draft_handle, posted_handle};
 ghost use Rattle.site.specs.SiteModel.{site_model};
-ghost use Rattle.site.specs.Calls.{called, awaited, Done, Post, Outcome, LetGo, Report, posting, DraftBack, outcome_told, PostedBack, reporting, landed};
+ghost use Rattle.site.specs.Calls.{called, told, awaited, Done, Post, Outcome, LetGo, Report, sending, posting, DraftBack, outcome_of, outcome_told, PostedBack, reporting, landed};
 
 use super::Site;
-use crate::handles::{Draft, Posted};
+use crate::handles::{Draft, Handle, Posted};
 use crate::modes::{Event, admit};
 use crate::refusals::Refusal;
 use crate::slots::Slot;
@@ -14,10 +15,10 @@ use account::decisions::Decision;
 use logs::api::Log;
 use store::api::Store;
 
-/// What a post comes to: nothing to send, or a posted edit and how many words its message has.
-pub enum Sent {
-    ReadOnly,
-    Words(Posted, usize),
+/// A posted edit, and how many words its message has.
+pub struct Sent {
+    pub posted: Posted,
+    pub count: usize,
 }
 
 /// What is known of a posted edit: nothing yet, with the posted edit given back, or its decision.
@@ -27,46 +28,49 @@ pub enum Answered {
 }
 
 impl<S: Store, L: Log> Site<S, L> {
-    // Whether the slot still holds this posted edit.
-    fn awaits(&self, posted: &Posted) -> bool
-        ensures is { result ≡ awaited (site_model S.Store.model L.Log.model self.now) (posted_handle posted.now) }
-        ensures within { T result → posted.now.slot < 8 }
+    // Whether the slot still holds the posted edit of the handle.
+    fn awaits(&self, handle: Handle) -> bool
+        ensures is { result ≡ awaited (site_model S.Store.model L.Log.model self.now) handle }
+        ensures within { T result → handle.slot < 8 }
     {
-        if posted.site != self.home.number {
-            return false;
-        }
-        self.slots.has_posted(posted.slot, posted.ticket)
+        handle.site == self.home.number && self.slots.has_posted(handle.slot, handle.ticket)
     }
 
     /// Writes the draft's edit from the buffer's first word on, and gives a posted edit and how many words there are; or, with
-    /// nothing written, empties the slot. A refusal hands the draft back and leaves the buffer.
-    pub fn post(&mut self, draft: Draft, out: &mut [u32]) -> Result<Sent, (Refusal, Draft)>
+    /// nothing written, empties the slot, and there is none. A refusal hands the draft back and leaves the buffer.
+    pub fn post(&mut self, draft: Draft, out: &mut [u32]) -> Result<Option<Sent>, (Refusal, Draft)>
         ensures told { (posting (draft_handle draft) out.new result, site_model S.Store.model L.Log.model self.new) ≡ called (site_model S.Store.model L.Log.model self.old) (Post (draft_handle draft) (length out.old)) }
         ensures buffer { out.new ≡ landed (posting (draft_handle draft) out.new result) out.old }
         ensures back { DraftBack draft result }
     {
-        if let Err(refusal) = admit(self.mode, Event::Other) {
-            return Err((refusal, draft));
+        let Draft(handle) = draft;
+        match self.post_by(handle, out) {
+            Ok(None) => Ok(None),
+            Ok(Some(count)) => Ok(Some(Sent {
+                posted: Posted(handle),
+                count,
+            })),
+            Err(refusal) => Err((refusal, Draft(handle))),
         }
-        let Some(held) = self.drafted(&draft) else {
-            return Err((Refusal::NotYours, draft));
-        };
-        let edit = *held;
+    }
+
+    pub(crate) fn post_by(
+        &mut self,
+        handle: Handle,
+        out: &mut [u32],
+    ) -> Result<Option<usize>, Refusal>
+        ensures told { (told (sending handle out.new) result, site_model S.Store.model L.Log.model self.new) ≡ called (site_model S.Store.model L.Log.model self.old) (Post handle (length out.old)) }
+        ensures buffer { out.new ≡ landed (told (sending handle out.new) result) out.old }
+    {
+        admit(self.mode, Event::Other)?;
+        let edit = *self.drafted(handle).ok_or(Refusal::NotYours)?;
         if edit.is_empty() {
-            self.slots.put(draft.slot, Slot::Empty);
-            let Draft {
-                site: _,
-                slot: _,
-                ticket: _,
-            } = draft;
-            return Ok(Sent::ReadOnly);
+            self.slots.put(handle.slot, Slot::Empty);
+            return Ok(None);
         }
-        let Some(count) = spell_edit(self.home, &edit, out) else {
-            return Err((Refusal::ShortBuffer, draft));
-        };
-        self.slots.put(draft.slot, Slot::Posted(edit));
-        let Draft { site, slot, ticket } = draft;
-        Ok(Sent::Words(Posted { site, slot, ticket }, count))
+        let count = spell_edit(self.home, &edit, out)?;
+        self.slots.put(handle.slot, Slot::Posted(edit));
+        Ok(Some(count))
     }
 
     /// The decision of a posted edit, whose slot is then empty; or pending, with the posted edit given back.
@@ -74,36 +78,42 @@ impl<S: Store, L: Log> Site<S, L> {
         ensures told { (outcome_told (posted_handle posted) result, site_model S.Store.model L.Log.model self.new) ≡ called (site_model S.Store.model L.Log.model self.old) (Outcome (posted_handle posted)) }
         ensures back { PostedBack posted result }
     {
-        if let Err(refusal) = admit(self.mode, Event::Other) {
-            return Err((refusal, posted));
+        let Posted(handle) = posted;
+        match self.outcome_by(handle) {
+            Ok(Some(decision)) => Ok(Answered::Decided(decision)),
+            Ok(None) => Ok(Answered::Pending(Posted(handle))),
+            Err(refusal) => Err((refusal, Posted(handle))),
         }
-        if !self.awaits(&posted) {
-            return Err((Refusal::NotYours, posted));
+    }
+
+    pub(crate) fn outcome_by(&mut self, handle: Handle) -> Result<Option<Decision>, Refusal>
+        ensures { (told outcome_of result, site_model S.Store.model L.Log.model self.new) ≡ called (site_model S.Store.model L.Log.model self.old) (Outcome handle) }
+    {
+        admit(self.mode, Event::Other)?;
+        if !self.awaits(handle) {
+            return Err(Refusal::NotYours);
         }
-        let Some(decision) = self.slots.decision(posted.slot) else {
-            return Ok(Answered::Pending(posted));
+        let Some(decision) = self.slots.decision(handle.slot) else {
+            return Ok(None);
         };
-        self.slots.put(posted.slot, Slot::Empty);
-        let Posted {
-            site: _,
-            slot: _,
-            ticket: _,
-        } = posted;
-        Ok(Answered::Decided(decision))
+        self.slots.put(handle.slot, Slot::Empty);
+        Ok(Some(decision))
     }
 
     /// Ends the posted edit, and empties its slot if it still has it.
     pub fn let_go(&mut self, posted: Posted)
         ensures { (Done, site_model S.Store.model L.Log.model self.new) ≡ called (site_model S.Store.model L.Log.model self.old) (LetGo (posted_handle posted)) }
     {
-        if self.awaits(&posted) {
-            self.slots.put(posted.slot, Slot::Empty);
+        let Posted(handle) = posted;
+        self.let_go_by(handle);
+    }
+
+    pub(crate) fn let_go_by(&mut self, handle: Handle)
+        ensures { (Done, site_model S.Store.model L.Log.model self.new) ≡ called (site_model S.Store.model L.Log.model self.old) (LetGo handle) }
+    {
+        if self.awaits(handle) {
+            self.slots.put(handle.slot, Slot::Empty);
         }
-        let Posted {
-            site: _,
-            slot: _,
-            ticket: _,
-        } = posted;
     }
 
     /// Writes a report of keep, the least version that an open or posted edit or a new one can read, from the buffer's first
@@ -114,6 +124,6 @@ impl<S: Store, L: Log> Site<S, L> {
     {
         admit(self.mode, Event::Other)?;
         let keep = self.slots.keep(self.store.version());
-        spell_report(self.home, keep, out).ok_or(Refusal::ShortBuffer)
+        spell_report(self.home, keep, out)
     }
 }

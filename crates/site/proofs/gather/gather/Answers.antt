@@ -1,24 +1,16 @@
-use Rattle.std.proofs.Common.{◌+◌, ◌++◌, take, set, sym, ap, ◌∙◌, arith, length-set}
+use Rattle.std.proofs.Common.{rules, arith, length-take}
 use Rattle.words.specs.Writes.{leading}
-use Rattle.site.proofs.Gathered.{gather_more, gather_stop, gather_full}
+use Rattle.few.specs.Lists.{few_items}
+use Rattle.site.proofs.Gathered.{gather_full, gather_stop}
 use Rattle.site.proofs.gather.gather.Goals as goal
 
-pub returns-in_default : goal.returns-in_default
-returns-in_default c =
-    record {
-      few = omega arith;
-      table = c.loop-count.invariant.0;
-      writes = gather_stop c.loop-count.writes (leading c.args.words.now) c.loop-count.invariant.0 c.loop-count.count c.loop-count.rest.now (omega arith)
-          (sym c.read_write-found.ensures.write ∙ c.in_default.is) c.loop-count.invariant.1;
-    }
-
-pub loop-count-preserved : goal.loop-count-preserved
-loop-count-preserved c = (
-  omega (arith, length-set c.loop-count.writes c.loop-count.count c.in-Some.write, c.loop-count.invariant.0),
-  ap (λ ws. take (c.loop-count.count + 1) (set c.loop-count.writes c.loop-count.count c.in-Some.write) ++ leading ws) c.read_write-found.ensures.rest
-      ∙ gather_more c.loop-count.writes (leading c.args.words.now) c.loop-count.invariant.0 c.loop-count.count c.loop-count.rest.now c.in-Some.write (omega arith)
-      (sym c.read_write-found.ensures.write ∙ c.in-Some.is) c.loop-count.invariant.1,
-)
+pub returns-then-is_err : goal.returns-then-is_err
+returns-then-is_err c =
+    let w = c.loop-write.writes in
+    gather_full (few_items w) (leading c.args.words.now) (few_items c.push.new.self) c.loop-write.rest.now c.loop-write.invariant c.in-Some-default.write
+    (search rules) (omega (arith, length-take w.count w.items, w.few)) c.push.ensures.after
 
 pub returns : goal.returns
-returns c = record { few = omega arith; table = c.loop-count.invariant.0; writes = gather_full c.loop-count.writes (leading c.args.words.now) c.loop-count.invariant.0 c.loop-count.count c.loop-count.rest.now (omega arith) c.loop-count.invariant.1 }
+returns c =
+    let w = c.loop-write.writes in
+    gather_stop (few_items w) (leading c.args.words.now) (few_items w) c.loop-write.rest.now c.loop-write.invariant (search rules) (omega (arith, length-take w.count w.items, w.few))

@@ -1,7 +1,11 @@
-use Rattle.std.proofs.Common.{◌≡◌, ◌++◌, length, take}
+use Rattle.std.proofs.Common.{◌≡◌, ◌++◌, length}
+use Rattle.few.specs.Lists.{few_items}
 use Rattle.words.specs.Writes.{leading}
 use Rattle.site.proofs.gather.gather.Given as goal
 
--- What is in the table, and what the rest begins with, is what the whole begins with.
-abbrev pub invariant-loop-count : goal.invariant-loop-count
-invariant-loop-count l = (length l.writes ≡ 16) × (take l.count l.writes ++ leading l.rest ≡ leading l.words)
+-- The writes so far, and what the rest begins with, are what the whole begins with.
+abbrev pub invariant-loop-write : goal.invariant-loop-write
+invariant-loop-write l = few_items l.writes ++ leading l.rest ≡ leading l.words
+
+abbrev pub decreases-loop-write : goal.decreases-loop-write
+decreases-loop-write l = length l.rest

@@ -1,73 +1,55 @@
-use Rattle.std.proofs.Common.{◌+◌, ◌<◌, ◌≤◌, length, take, set, sym, ap, ◌∙◌, arith, length-set, length-take}
-use Rattle.std.proofs.lemmas.List.{length-take-le}
+use Rattle.std.proofs.Common.{◌≤◌, length, rules, sym, ap, ◌∙◌, arith, length-take}
+use Rattle.std.proofs.lemmas.List.Sorted.{answers_always}
 use Rattle.words.specs.Writes.{fit_from}
-use Rattle.site.specs.Edits.{rank}
-use Rattle.site.proofs.EditWrites.{fit_with, over, into, one_more, filled, put_taken, put_declined}
+use Rattle.few.specs.Lists.{few_items}
+use Rattle.site.proofs.EditWrites.{fit_with, found_at, gap_at, put_taken, fit_inserted, put_inserted}
 use Rattle.site.proofs.edits.Edit.put.Goals as goal
 
 pub invariant_of-self : goal.invariant_of-self
 invariant_of-self c =
     let a = c.args.self.now in
+    let l = few_items a.writes in
     let w = c.args.write in
-    let r = c.count_lower-place.ensures.value ∙ ap (λ l. rank l w.item) c.writes.ensures in
-    let e = over a w c.count_lower-place.result r (c.has_at.ensures.there c.if-has_at.true) in
+    let by_key = c.in-Ok.ensures.position (λ held. held.item) (answers_always _ _ _ (λ f a r g called. search rules)) in
+    let e = found_at c.writes.result.now l w c.writes.ensures a.orderly c.in-Ok.place c.in-Ok.ensures.bound by_key in
     record {
       ticketed = a.ticketed;
       ticket_fits = a.ticket_fits;
       snapshot_fits = a.snapshot_fits;
-      few = a.few;
-      table = length-set a.writes c.count_lower-place.result w ∙ a.table;
-      orderly = ap (fit_from 0) (sym e) ∙ fit_with 0 (take a.count a.writes) w a.orderly (omega arith) c.requires;
+      orderly = ap (fit_from 0) (c.replace.ensures.after ∙ sym e) ∙ fit_with 0 l w a.orderly (omega arith) c.requires;
     }
 
-pub returns-then-has_at : goal.returns-then-has_at
-returns-then-has_at c =
+pub returns-in-Ok : goal.returns-in-Ok
+returns-in-Ok c =
     let a = c.args.self.now in
+    let l = few_items a.writes in
     let w = c.args.write in
-    let r = c.count_lower-place.ensures.value ∙ ap (λ l. rank l w.item) c.writes.ensures in
-    let n = length-set a.writes c.count_lower-place.result w in
-    let m : length (take a.count (set a.writes c.count_lower-place.result w)) ≤ 16 = omega (arith, length-take a.count (set a.writes c.count_lower-place.result w), a.few) in
-    put_taken a.ticket a.snapshot (take a.count a.writes) _ w
-    (over a w c.count_lower-place.result r (c.has_at.ensures.there c.if-has_at.true)) m
+    let by_key = c.in-Ok.ensures.position (λ held. held.item) (answers_always _ _ _ (λ f a r g called. search rules)) in
+    let e = found_at c.writes.result.now l w c.writes.ensures a.orderly c.in-Ok.place c.in-Ok.ensures.bound by_key in
+    let new = c.replace.new.self in
+    put_taken a.ticket a.snapshot l (few_items new) w (e ∙ sym c.replace.ensures.after) (omega (arith, length-take new.count new.items, new.few))
 
-pub returns-then-self-eq16 : goal.returns-then-self-eq16
-returns-then-self-eq16 c =
+pub invariant_of-self-in-Err : goal.invariant_of-self-in-Err
+invariant_of-self-in-Err c =
     let a = c.args.self.now in
+    let l = few_items a.writes in
     let w = c.args.write in
-    let r = c.count_lower-place.ensures.value ∙ ap (λ l. rank l w.item) c.writes.ensures in
-    let many = length-take-le a.count a.writes (omega (arith, a.few, a.table)) in
-    let k : c.count_lower-place.result ≤ a.count = omega (arith, c.count_lower-place.ensures.within, ap length c.writes.ensures, many) in
-    put_declined a.ticket a.snapshot (take a.count a.writes) _ w
-    (into a w c.count_lower-place.result r (c.has_at.ensures.elsewhere c.if-has_at.false))
-    (omega (arith, one_more a w c.count_lower-place.result r k, c.if-self-eq16.true))
-
-pub invariant_of-self-2 : goal.invariant_of-self-2
-invariant_of-self-2 c =
-    let a = c.args.self.now in
-    let w = c.args.write in
-    let r = c.count_lower-place.ensures.value ∙ ap (λ l. rank l w.item) c.writes.ensures in
-    let many = length-take-le a.count a.writes (omega (arith, a.few, a.table)) in
-    let k : c.count_lower-place.result ≤ a.count = omega (arith, c.count_lower-place.ensures.within, ap length c.writes.ensures, many) in
-    let h : a.count < 16 = omega (arith, a.few, c.if-self-eq16.false) in
-    let e = filled a w c.count_lower-place.result r c.open_gap-wider.result h k (c.has_at.ensures.elsewhere c.if-has_at.false) c.open_gap-wider.ensures.moved in
+    let by_key = c.in-Err.ensures.position (λ held. held.item) (answers_always _ _ _ (λ f a r g called. search rules)) in
+    let e = gap_at c.writes.result.now l w c.writes.ensures a.orderly c.in-Err.place c.in-Err.ensures.bound by_key in
+    let k : c.in-Err.place ≤ length l = omega (arith, c.in-Err.ensures.bound, ap length c.writes.ensures) in
     record {
       ticketed = a.ticketed;
       ticket_fits = a.ticket_fits;
       snapshot_fits = a.snapshot_fits;
-      few = omega arith;
-      table = length-set c.open_gap-wider.result c.count_lower-place.result w ∙ c.open_gap-wider.ensures.sixteen;
-      orderly = ap (fit_from 0) (sym e) ∙ fit_with 0 (take a.count a.writes) w a.orderly (omega arith) c.requires;
+      orderly = fit_inserted l (few_items c.insert.new.self) c.in-Err.place w e k c.insert.ensures.after a.orderly c.requires;
     }
 
-pub returns : goal.returns
-returns c =
+pub returns-in-Err : goal.returns-in-Err
+returns-in-Err c =
     let a = c.args.self.now in
+    let l = few_items a.writes in
     let w = c.args.write in
-    let r = c.count_lower-place.ensures.value ∙ ap (λ l. rank l w.item) c.writes.ensures in
-    let many = length-take-le a.count a.writes (omega (arith, a.few, a.table)) in
-    let k : c.count_lower-place.result ≤ a.count = omega (arith, c.count_lower-place.ensures.within, ap length c.writes.ensures, many) in
-    let h : a.count < 16 = omega (arith, a.few, c.if-self-eq16.false) in
-    let e = filled a w c.count_lower-place.result r c.open_gap-wider.result h k (c.has_at.ensures.elsewhere c.if-has_at.false) c.open_gap-wider.ensures.moved in
-    let m : length (take (a.count + 1) (set c.open_gap-wider.result c.count_lower-place.result w)) ≤ 16 =
-    omega (arith, length-take (a.count + 1) (set c.open_gap-wider.result c.count_lower-place.result w)) in
-    put_taken a.ticket a.snapshot (take a.count a.writes) _ w e m
+    let by_key = c.in-Err.ensures.position (λ held. held.item) (answers_always _ _ _ (λ f a r g called. search rules)) in
+    let e = gap_at c.writes.result.now l w c.writes.ensures a.orderly c.in-Err.place c.in-Err.ensures.bound by_key in
+    let k : c.in-Err.place ≤ length l = omega (arith, c.in-Err.ensures.bound, ap length c.writes.ensures) in
+    put_inserted l (few_items c.insert.new.self) c.in-Err.place w e k a.ticket a.snapshot _ c.insert.ensures.answer c.insert.ensures.after

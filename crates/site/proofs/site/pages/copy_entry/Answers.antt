@@ -1,4 +1,4 @@
-use Rattle.std.proofs.Common.{◌≡◌, ◌+◌, ◌-◌, take, sym, ap, ◌∙◌, arith}
+use Rattle.std.proofs.Common.{◌≡◌, ◌+◌, sym, ap, ◌∙◌}
 use Rattle.std.proofs.lemmas.List.{take_all}
 use Rattle.std.proofs.lemmas.Bool.{eq-eqb, ne_eqb}
 use Rattle.words.specs.Writes.{leading}
@@ -19,8 +19,7 @@ returns-then-not-copy g c =
     let h = c.args.site in
     let t = c.args.ticket in
     let ws = leading c.args.writes.now in
-    let r = c.gather-count.result in
-    let same : take (r.1 - 0) r.0 ≡ ws = ap (λ n. take n r.0) (omega arith) ∙ c.gather-count.ensures.writes ∙ take_all 16 ws c.requires in
+    let same : c.as_slice.result.now ≡ ws = c.as_slice.ensures ∙ c.gather-gathered.ensures ∙ take_all 16 ws c.requires in
     let full = ap (λ us. can_copy l (entry_of h t us)) (sym same) ∙ sym c.if-not-copy.ensures.answer in
     ap (λ x. (refused 13, x)) (c.copy.ensures.after ∙ ap (λ us. copied l (entry_of h t us)) same ∙ not_copied l (entry_of h t ws) full)
     ∙ without_room l (an_entry h c.args.version t ws) (eq-eqb _ _ (c.if-version-last.false ∙ ap (λ n. n + 1) c.last.ensures)) full
@@ -31,8 +30,7 @@ returns g c =
     let h = c.args.site in
     let t = c.args.ticket in
     let ws = leading c.args.writes.now in
-    let r = c.gather-count.result in
-    let same : take (r.1 - 0) r.0 ≡ ws = ap (λ n. take n r.0) (omega arith) ∙ c.gather-count.ensures.writes ∙ take_all 16 ws c.requires in
+    let same : c.as_slice.result.now ≡ ws = c.as_slice.ensures ∙ c.gather-gathered.ensures ∙ take_all 16 ws c.requires in
     ap (λ x. (given tt, x)) (c.copy.ensures.after ∙ ap (λ us. copied l (entry_of h t us)) same)
     ∙ following l (an_entry h c.args.version t ws) (eq-eqb _ _ (c.if-version-last.false ∙ ap (λ n. n + 1) c.last.ensures))
     (ap (λ us. can_copy l (entry_of h t us)) (sym same) ∙ sym c.if-not-copy.ensures.answer)

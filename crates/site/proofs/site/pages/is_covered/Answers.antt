@@ -1,25 +1,14 @@
-use Rattle.std.proofs.Common.{◌+◌, ◌&&◌, drop, sym, ap, ◌∙◌, arith}
-use Rattle.std.proofs.lemmas.Bool.{le-leb, lt-leb}
-use Rattle.site.specs.CatchUp.{covers}
-use Rattle.site.proofs.PagesTaken.{covers_short, covers_more, covers_all}
+use Rattle.std.proofs.Common.{rules, tests, sym, ◌∙◌}
+use Rattle.std.proofs.lemmas.Iterator.{YieldsList-from_slice, YieldsList-from_zip}
+use Rattle.std.proofs.lemmas.Iterator.Search.{all_from_yields_List}
+use Rattle.std.proofs.lemmas.Bool.{lt-leb}
+use Rattle.site.proofs.PagesTaken.{pair_covered, covers_pairs, covers_short}
 use Rattle.site.proofs.site.pages.is_covered.Goals as goal
 
-pub returns-then-new-i : goal.returns-then-new-i
-returns-then-new-i c = sym (covers_short c.args.old.now c.args.new.now c.loop-i.i (omega arith) (omega arith)) ∙ c.loop-i.invariant
+pub returns-then-old-new : goal.returns-then-old-new
+returns-then-old-new c =
+    all_from_yields_List pair_covered c.all.new.self _ c.all.result c.all.ensures.ran (YieldsList-from_zip (YieldsList-from_slice c.args.old.now cc) (YieldsList-from_slice c.args.new.now cc)) (λ x b q k. search (rules, tests))
+    ∙ covers_pairs c.args.old.now c.args.new.now c.if-old-new.true
 
-pub returns-then-new-i-2 : goal.returns-then-new-i-2
-returns-then-new-i-2 c =
-    let old = c.args.old.now in
-    let new = c.args.new.now in
-    let i = c.loop-i.i in
-    sym (covers_more old new i (omega arith) (omega arith) ∙ ap (λ b. b && covers (drop (i + 1) old) (drop (i + 1) new)) (lt-leb _ _ c.if-new-i-2.true)) ∙ c.loop-i.invariant
-
-pub loop-i-preserved : goal.loop-i-preserved
-loop-i-preserved c =
-    let old = c.args.old.now in
-    let new = c.args.new.now in
-    let i = c.loop-i.i in
-    sym (covers_more old new i (omega arith) (omega arith) ∙ ap (λ b. b && covers (drop (i + 1) old) (drop (i + 1) new)) (le-leb _ _ c.if-new-i-2.false)) ∙ c.loop-i.invariant
-
-pub returns : goal.returns
-returns c = sym (covers_all c.args.old.now (drop c.loop-i.i c.args.new.now) c.loop-i.i (omega arith)) ∙ c.loop-i.invariant
+pub returns-else-old-new : goal.returns-else-old-new
+returns-else-old-new c = lt-leb _ _ c.if-old-new.false ∙ sym (covers_short c.args.old.now c.args.new.now c.if-old-new.false)

@@ -1,4 +1,4 @@
-use Rattle.std.proofs.Common.{◌≡◌, take, Some, sym, ap, ◌∙◌, arith}
+use Rattle.std.proofs.Common.{◌≡◌, Some, sym, ap, ◌∙◌}
 use Rattle.words.specs.Writes.{leading}
 use Rattle.words.specs.Messages.{an_edit, message_value}
 use Rattle.site.specs.Calls.{entered}
@@ -13,6 +13,5 @@ returns-in-Edit g c =
     let read : Some (an_edit e.site e.ticket e.snapshot l) ≡ _ = ap (λ x. Some (message_value x)) (sym e.is) ∙ c.in-Some.ensures.message in
     let valid = ((c.in-Some.ensures.exact (an_edit e.site e.ticket e.snapshot l)).0 (ap (λ x. Some (message_value x)) e.is)).1 in
     c.enter.ensures
-    ∙ ap (λ n. entered m (Some (an_edit e.site e.ticket e.snapshot (take n c.gather-count.result.0)))) (omega arith)
-    ∙ ap (λ k. entered m (Some (an_edit e.site e.ticket e.snapshot k))) (c.gather-count.ensures.writes ∙ all_gathered c.args.sites e.site e.ticket e.snapshot l valid)
+    ∙ ap (λ k. entered m (Some (an_edit e.site e.ticket e.snapshot k))) (c.as_slice.ensures ∙ c.gather-gathered.ensures ∙ all_gathered c.args.sites e.site e.ticket e.snapshot l valid)
     ∙ ap (entered m) read
