@@ -10,7 +10,7 @@ use Rattle.words.specs.Pages.{PageValue, an_entry, a_closing, has_words, page_wo
 use Rattle.words.specs.declared.encode.Refusal.{Refusal as WordsRefusal}
 use Rattle.words.specs.Encoded.{reply, put_answer, put_after}
 use Rattle.logs.specs.declared.heads.EntryHead.{EntryHead}
-use Rattle.logs.specs.LogModel.{Entry, LogModel, Bounded, all_within, all_fit as log-fit, all_loggable, last_version, entry_at, head_of}
+use Rattle.logs.specs.LogModel.{Entry, LogModel, Bounded, all_within, all_loggable, last_version, entry_at, head_of}
 use Rattle.site.specs.Calls.{writes_in}
 use Rattle.site.specs.CatchUp.{page_after, page_at}
 use Rattle.site.specs.declared.refusals.Refusal.{Refusal}
@@ -25,10 +25,6 @@ held x b = and_from _ _ (le-leb 0 x (omega arith)) (lt-ltb x 268435456 (omega ar
 within_every : (ks : List ℕ) → all_within ks ≡ every (λ k. leb k 268435455) ks
 within_every [] = refl
 within_every (k ∷ ks) = rw (within_every ks)
-
-same_fit : (l : List Write) → log-fit l ≡ all_fit l
-same_fit [] = refl
-same_fit (w ∷ l) = rw (same_fit l)
 
 pub closing_held : (l : LogModel) → Bounded l → has_words (a_closing (last_version l) l.place l.known) ≡ true
 closing_held l b =
@@ -59,7 +55,7 @@ kept_by l v e true t a h =
       home = ltb-true e.home 16 p.0;
       ticket = leb-true e.ticket 268435455 q.0;
       few = leb-true (length e.writes) 16 r.0;
-      fit = sym (same_fit e.writes) ∙ r.1;
+      fit = r.1;
       version = omega (arith, nth_length l.entries (v - (l.floor + 1)) e h, ltb-true l.floor v t);
     }
 
@@ -105,6 +101,14 @@ pub entry_held : (l : LogModel) (h v t : ℕ) → Bounded l → h < 16 → t ≤
 entry_held l h v t b i j k =
     let w = writes_held l v (entry_at l v) (λ e q. kept l v e b q) in
     and_from _ _ (lt-ltb h 16 i) (and_from _ _ (held v k) (and_from _ _ (held t j) (and_from _ _ w.0 w.1)))
+
+-- a page that words can hold has at most 16 writes
+pub few_of_page : (h v t : ℕ) (l : List Write) → has_words (an_entry h v t l) ≡ true → length l ≤ 16
+few_of_page h v t l e =
+    let a = (and_parts (ltb h 16) _ e).1 in
+    let b = (and_parts (in_range 0 v) _ a).1 in
+    let c = (and_parts (in_range 0 t) _ b).1 in
+    leb-true (length l) 16 (and_parts (leb (length l) 16) (all_fit l) c).0
 
 -- a page as it is handed to its writer, where words hold the page that it is
 pub page_spelt : (p q : PageValue) (r : Result ℕ WordsRefusal) (s : Result ℕ Refusal) (out after : List ℕ) → p ≡ q → has_words q ≡ true → as_call r ≡ s →

@@ -7,7 +7,7 @@ use Rattle.logs.specs.LogModel.{LogModel, Entry, a_log, appended, held, mark_cle
 use Rattle.site.specs.declared.modes.Mode.{Mode}
 use Rattle.site.specs.declared.modes.Mode.TheVariants.{Whole, Partial, Down}
 use Rattle.site.specs.declared.refusals.Refusal.{Refusal}
-use Rattle.site.specs.Modes.{Reply, given, refused, refusal_number, admitted}
+use Rattle.site.specs.Modes.{Reply, given, refused, reply, refusal_number, admitted}
 use Rattle.site.specs.CatchUp.{covers, follows, has_room_for, log_taken, page_entered, taking, fails}
 use Rattle.site.specs.Slots.{all_empty}
 use Rattle.site.specs.SiteModel.{SiteModel, with_log}
@@ -80,6 +80,10 @@ some_from_ok (Some y) e x h = let q : y ≡ x = cc in ap (λ z. Some z) q
 pub handed_on : {A : Type 0} (f : A → Answer) (r : Result A Refusal) (e : Refusal) → IsErrAnd r (λ x. x ≡ e) → told f r ≡ Declined (refusal_number e)
 handed_on f (Ok a) e h = absurd h
 handed_on f (Err x) e h = ap (λ y. Declined (refusal_number y)) h
+
+pub refused_as : {A B : Type 0} (f : A → B) (r : Result A Refusal) (e : Refusal) → IsErrAnd r (λ x. x ≡ e) → reply f r ≡ refused (refusal_number e)
+refused_as f (Ok a) e h = absurd h
+refused_as f (Err x) e h = ap (λ y. refused (refusal_number y)) h
 
 module _ (m : SiteModel) (ws : List ℕ) where
   abbrev by_lines : Bool → Bool → Bool → Option PageValue → Answer × SiteModel

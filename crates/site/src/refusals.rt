@@ -1,9 +1,10 @@
 // Why a call is declined: the table of refusals.
 ghost use Rattle.std.specs.Prelude.{◌≡◌};
-ghost use Rattle.site.specs.declared.refusals.Refusal.TheVariants.{TooManyItems};
+ghost use Rattle.site.specs.declared.refusals.Refusal.TheVariants.{LogFull, TooManyItems};
 ghost use Rattle.site.specs.Modes.{refusal_number, unwritten};
 
 use few::Full;
+use logs::api::Declined;
 
 /// Why a call is declined. Each has its number in the table of refusals.
 #[derive(Clone, Copy, PartialEq, Eq, Debug)]
@@ -38,6 +39,14 @@ impl From<words::encode::Refusal> for Refusal {
             words::encode::Refusal::OutOfRange => Refusal::OutOfRange,
             words::encode::Refusal::TooShort => Refusal::ShortBuffer,
         }
+    }
+}
+
+impl From<Declined> for Refusal {
+    ghost from_gives = { λ _ r. r ≡ LogFull };
+
+    fn from(_declined: Declined) -> Refusal {
+        Refusal::LogFull
     }
 }
 

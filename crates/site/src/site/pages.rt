@@ -15,6 +15,7 @@ use crate::modes::{Event, admit};
 use crate::refusals::Refusal;
 use crate::spelling::spell_page;
 use logs::api::Log;
+use logs::heads::NewEntry;
 use store::api::Store;
 use words::pages::{Page, read_page};
 
@@ -58,23 +59,13 @@ fn close_log<L: Log>(log: &mut L, version: u32, place: u32, known: &[u32]) -> Re
 }
 
 // Takes an entry into the log, if it is the one after the last.
-fn copy_entry<L: Log>(
-    log: &mut L,
-    site: u32,
-    version: u32,
-    ticket: u32,
-    writes: &[u32],
-) -> Result<(), Refusal>
-    requires { length (leading writes.now) ≤ 16 }
-    ensures { (reply (λ _. tt) result, L.Log.model log.new) ≡ page_entered (L.Log.model log.old) (an_entry site version ticket (leading writes.now)) }
+fn copy_entry<L: Log>(log: &mut L, version: u32, entry: NewEntry<'_>) -> Result<(), Refusal>
+    ensures { (reply (λ _. tt) result, L.Log.model log.new) ≡ page_entered (L.Log.model log.old) (an_entry entry.entry.home version entry.entry.ticket entry.entry.writes.now) }
 {
     if version != log.last() + 1 {
         return Err(Refusal::WrongPage);
     }
-    let gathered = gather(writes);
-    if !log.copy(site, ticket, gathered.as_slice()) {
-        return Err(Refusal::LogFull);
-    }
+    log.copy(entry)?;
     Ok(())
 }
 
@@ -89,7 +80,15 @@ fn enter_page<L: Log>(log: &mut L, page: Page<'_>) -> Result<(), Refusal>
             version,
             ticket,
             writes,
-        } => copy_entry(log, site, version, ticket, writes),
+        } => {
+            let gathered = gather(writes);
+            let entry = NewEntry {
+                home: site,
+                ticket,
+                writes: gathered.as_slice(),
+            };
+            copy_entry(log, version, entry)
+        }
         Page::Closing {
             version,
             place,

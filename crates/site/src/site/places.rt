@@ -12,6 +12,7 @@ use crate::modes::{Event, admit};
 use crate::refusals::Refusal;
 use account::decisions::Decision;
 use logs::api::Log;
+use logs::heads::NewEntry;
 use store::api::Store;
 use words::changes::Write;
 use words::limits::LIMIT;
@@ -44,23 +45,15 @@ fn hear<L: Log>(log: &mut L, site: u32, version: u32)
 }
 
 // Decides an edit by the log, which keeps it if it commits.
-fn enter<L: Log>(
-    log: &mut L,
-    site: u32,
-    ticket: u32,
-    snapshot: u32,
-    writes: &[Write],
-) -> Result<Decision, Refusal>
-    ensures { (told Told result, L.Log.model log.new) ≡ entered (L.Log.model log.old) (Some (an_edit site ticket snapshot writes.now)) }
+fn enter<L: Log>(log: &mut L, entry: NewEntry<'_>, snapshot: u32) -> Result<Decision, Refusal>
+    ensures { (told Told result, L.Log.model log.new) ≡ entered (L.Log.model log.old) (Some (an_edit entry.entry.home entry.entry.ticket snapshot entry.entry.writes.now)) }
 {
-    let decision = judge(log, snapshot, writes);
+    let decision = judge(log, snapshot, entry.writes);
     let Decision::Commit(_) = decision else {
         log.pass();
         return Ok(decision);
     };
-    if !log.commit(site, ticket, writes) {
-        return Err(Refusal::LogFull);
-    }
+    log.commit(entry)?;
     Ok(decision)
 }
 
@@ -98,7 +91,12 @@ fn decide<L: Log>(log: &mut L, sites: u32, words: &[u32]) -> Result<Decision, Re
             writes,
         } => {
             let gathered = gather(writes);
-            enter(log, site, ticket, snapshot, gathered.as_slice())
+            let entry = NewEntry {
+                home: site,
+                ticket,
+                writes: gathered.as_slice(),
+            };
+            enter(log, entry, snapshot)
         }
     }
 }
