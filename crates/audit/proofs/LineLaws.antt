@@ -10,10 +10,6 @@ abbrev pub prefixed : List ℕ → Result (List ℕ) Reason → Result (List ℕ
 prefixed done (Ok ws) = Ok (done ++ ws)
 prefixed done (Err e) = Err e
 
-pub prefixed_none : (r : Result (List ℕ) Reason) → prefixed [] r ≡ r
-prefixed_none (Ok ws) = refl
-prefixed_none (Err e) = refl
-
 prefixed_more : (done : List ℕ) (w : ℕ) (r : Result (List ℕ) Reason) → prefixed (done ++ (w ∷ [])) r ≡ prefixed done (consed (Some w) r)
 prefixed_more done w (Ok ws) = ap Ok (append_assoc done (w ∷ []) ws)
 prefixed_more done w (Err e) = refl

@@ -1,10 +1,12 @@
 -- How a number is read digit by digit.
-use Rattle.std.proofs.Common.{◌≡◌, ℕ, ◌+◌, ◌-◌, ◌*◌, ◌/◌, ◌%◌, ◌^◌, ◌<◌, ◌≤◌, Bool, true, false, cond, ◌&&◌, ltb, List, [], ◌∷◌, map, length, get_or, take, drop, Some, None, Option, sym, refl, ap, ◌∙◌, arith}
+use Rattle.std.proofs.Common.{◌≡◌, ℕ, zero, suc, ◌+◌, ◌-◌, ◌*◌, ◌/◌, ◌%◌, ◌^◌, ◌<◌, ◌≤◌, Bool, true, false, cond, ◌&&◌, ltb, List, [], ◌∷◌, map, length, get_or, Some, None, Option, sym, refl, ap, ◌∙◌, subst, arith}
+use Rattle.std.specs.Array.{IsFromFnResultFrom}
+use Rattle.std.specs.Fn.{Mut, Called}
 use Rattle.std.specs.Int.Digits.{number_from_digits, number_from_digits_after, AllBelowBase}
 use Rattle.std.proofs.lemmas.Int.Digits.{number_after_ge, number_lt}
-use Rattle.std.proofs.lemmas.List.{length-map, take_rest}
+use Rattle.std.proofs.lemmas.List.{length-map}
 use Rattle.std.proofs.lemmas.Bool.{ltb-true, ltb-false, lt-ltb, le-ltb, eq-eqb, and_parts, and_from}
-use Rattle.text.specs.Numbers.{digit_value, is_digit, all_digits, value_of, below, more_of, number_of, decimal_below, decimal_of, positive_of, negative_of, signed_of, hex_word_of}
+use Rattle.text.specs.Numbers.{digit_value, is_digit, all_digits, value_of, below, more_of, number_of, hex_word_of}
 
 -- the number that the digits give after the number so far
 abbrev pub reading : ℕ → ℕ → List ℕ → Option ℕ
@@ -48,30 +50,6 @@ more_small base n b m = step (is_digit base b) (ltb (n * base + digit_value b) (
     step true false e o = absurd (let z : ◌≡◌ {A = ℕ} 0 1 = cc in omega arith)
     step false y e o = absurd (let z : ◌≡◌ {A = ℕ} 0 1 = cc in omega arith)
 
--- a number that was read, held to a limit
-abbrev pub narrowed : ℕ → Option ℕ → Option ℕ
-narrowed limit None = None
-narrowed limit (Some n) = below limit n
-
--- what 32 bits hold, held to a lower limit, is what is below that limit
-pub decimal_narrowed : (limit : ℕ) (w : List ℕ) → limit ≤ 2 ^ 32 → narrowed limit (decimal_of w) ≡ decimal_below limit w
-decimal_narrowed limit [] h = refl
-decimal_narrowed limit (b ∷ bs) h = step (all_digits 10 (b ∷ bs)) (ltb (value_of 10 (b ∷ bs)) (2 ^ 32)) refl
-  where
-    step : (x y : Bool) → ltb (value_of 10 (b ∷ bs)) (2 ^ 32) ≡ y
-        → narrowed limit (cond x (cond y (Some (value_of 10 (b ∷ bs))) None) None) ≡ cond x (below limit (value_of 10 (b ∷ bs))) None
-    step false y e = refl
-    step true true e = refl
-    step true false e = sym (below_none limit (value_of 10 (b ∷ bs)) (omega (arith, ltb-false (value_of 10 (b ∷ bs)) (2 ^ 32) e)))
-
--- a word with a `-` in front, its digits as the code takes them
-pub signed_minus : (w : List ℕ) → 0 < length w → get_or w 0 0 ≡ 45 → negative_of (narrowed (2 ^ 31 + 1) (decimal_of (take (length w - 1) (drop 1 w)))) ≡ signed_of w
-signed_minus [] h e = absurd (omega arith)
-signed_minus (b ∷ bs) h e =
-    ap (λ ds. negative_of (narrowed (2 ^ 31 + 1) (decimal_of ds))) (take_rest (b ∷ bs) 1)
-    ∙ ap negative_of (decimal_narrowed (2 ^ 31 + 1) bs (omega arith))
-    ∙ sym (ap (λ x. cond x (negative_of (decimal_below (2 ^ 31 + 1) bs)) (positive_of (decimal_below (2 ^ 31) (b ∷ bs)))) (eq-eqb b 45 e))
-
 -- digits are below their base, so that the number they write is below the base to the power of their count
 pub digits_under : (base : ℕ) (w : List ℕ) → all_digits base w ≡ true → AllBelowBase base (map digit_value w)
 digits_under base [] e = tt
@@ -109,3 +87,29 @@ hex_reads w a b c d e f g h small pa pb pc pd pe pf pg ph =
     let low = hex_before e _ _ pe (hex_before f _ _ pf (hex_before g _ _ pg (hex_before h _ true ph refl))) in
     let all = hex_before a _ _ pa (hex_before b _ _ pb (hex_before c _ _ pc (hex_before d _ _ pd low))) in
     ap (λ x. cond x (Some (value_of 16 (a ∷ b ∷ c ∷ d ∷ e ∷ f ∷ g ∷ h ∷ []))) None) all ∙ ap Some (hex_number w _ _ _ _ _ _ _ _ small pa pb pc pd pe pf pg ph)
+
+-- calls that leave the closure as it is, at each place in turn: each element is what such a call gives
+pub each_element : {F : Type 0} (g : Mut F (ℕ × Unit {0}) ℕ) (f : F) (P : ℕ → ℕ → Type 0) (keeps : (i y : ℕ) (q : F) → Called g f (i, tt) y q → (q ≡ f) × P i y)
+    (ys : List ℕ) (i n : ℕ) → IsFromFnResultFrom g f ys i n → (k m : ℕ) → m ≡ i + k → k < n → P m (get_or ys m 0)
+each_element g f P keeps ys i zero r k m e h = absurd (omega (arith, h))
+each_element g f P keeps ys i (suc n) r zero m e h =
+    let at : m ≡ i = omega (arith, e) in
+    subst (λ x. P x (get_or ys x 0)) (sym at) (subst (P i) (sym (r.2.1 0)) (keeps i r.1 r.0 r.3).1)
+each_element g f P keeps ys i (suc n) r (suc k) m e h =
+    each_element g f P keeps ys (i + 1) n (subst (λ x. IsFromFnResultFrom g x ys (i + 1) n) (keeps i r.1 r.0 r.3).0 r.4) k m (omega (arith, e)) (omega (arith, h))
+
+-- a list of eight digits of the four-bit parts of a word, by their places
+pub hex_reads_at : (w : ℕ) (bytes : List ℕ) → w < 2 ^ 32 → length bytes ≡ 8
+    → ((i : ℕ) → i < 8 → digit_value (get_or bytes i 0) ≡ w / 2 ^ (28 - 4 * i) % 16) → hex_word_of bytes ≡ Some w
+hex_reads_at w (a ∷ b ∷ c ∷ d ∷ e ∷ f ∷ g ∷ h ∷ []) small n at =
+    hex_reads w a b c d e f g h small (at 0 (omega arith)) (at 1 (omega arith)) (at 2 (omega arith)) (at 3 (omega arith))
+    (at 4 (omega arith)) (at 5 (omega arith)) (at 6 (omega arith)) (at 7 (omega arith) ∙ omega arith)
+hex_reads_at w [] small n at = absurd (omega (arith, n))
+hex_reads_at w (a ∷ []) small n at = absurd (omega (arith, n))
+hex_reads_at w (a ∷ b ∷ []) small n at = absurd (omega (arith, n))
+hex_reads_at w (a ∷ b ∷ c ∷ []) small n at = absurd (omega (arith, n))
+hex_reads_at w (a ∷ b ∷ c ∷ d ∷ []) small n at = absurd (omega (arith, n))
+hex_reads_at w (a ∷ b ∷ c ∷ d ∷ e ∷ []) small n at = absurd (omega (arith, n))
+hex_reads_at w (a ∷ b ∷ c ∷ d ∷ e ∷ f ∷ []) small n at = absurd (omega (arith, n))
+hex_reads_at w (a ∷ b ∷ c ∷ d ∷ e ∷ f ∷ g ∷ []) small n at = absurd (omega (arith, n))
+hex_reads_at w (a ∷ b ∷ c ∷ d ∷ e ∷ f ∷ g ∷ h ∷ i ∷ more) small n at = absurd (omega (arith, n))

@@ -12,11 +12,8 @@ fn digit(byte: u8, base: u32) -> Option<u32>
         b'A'..=b'F' => byte - b'A' + 10,
         _ => return None,
     };
-    if (value as u32) < base {
-        Some(value as u32)
-    } else {
-        None
-    }
+    let value = u32::from(value);
+    (value < base).then_some(value)
 }
 
 // The number with one more digit, if the byte is a digit and 32 bits hold the result.
@@ -104,15 +101,5 @@ fn hex_digit(word: u32) -> u8
 pub fn hex_digits(word: u32) -> [u8; 8]
     ensures { hex_word_of result ≡ Some word }
 {
-    // Spelled out: what `array::from_fn` and `map` promise of an element does not say which word its call saw.
-    [
-        hex_digit(word >> 28),
-        hex_digit(word >> 24),
-        hex_digit(word >> 20),
-        hex_digit(word >> 16),
-        hex_digit(word >> 12),
-        hex_digit(word >> 8),
-        hex_digit(word >> 4),
-        hex_digit(word),
-    ]
+    std::array::from_fn(|place| hex_digit(word >> (28 - 4 * place as u32)))
 }
