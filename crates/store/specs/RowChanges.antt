@@ -111,9 +111,6 @@ module _ (rs : List Record) (q : Counts) (k : CountsSound q) (s : RowSound rs q)
   row_space : space (row_model rs q) ≡ q.capacity - (q.sealed + q.staged)
   row_space = rw (length_sealed rs q.sealed q.staged inside, length_staged rs q.sealed q.staged inside)
 
-  pub row_full : q.capacity ≤ q.sealed + q.staged → has_space (row_model rs q) ≡ false
-  row_full h = le-ltb 0 _ (omega (arith, row_space))
-
   pub row_open : q.sealed + q.staged < q.capacity → has_space (row_model rs q) ≡ true
   row_open h = lt-ltb 0 _ (omega (arith, row_space))
 

@@ -56,6 +56,7 @@ impl Linked<'_> {
         requires { self.now.count ≤ length gone.old }
         ensures { gone.new ≡ replaced to (take self.now.count (laid self.now.row.records.now self.now.row.slots.now)) ++ drop self.now.count gone.old }
     {
+        // By index: a place has a slot and a mark, and is itself what the walk stops at.
         for i in 0..self.count {
             let slot = self.row.slots[i] as usize;
             let item = self.row.records[slot].item;

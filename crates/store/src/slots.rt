@@ -29,8 +29,7 @@ impl InSlots<'_> {
         ensures linked { SlotNexts (laid self.now.records.now self.now.slots.now) self.now.slots.now next.new to }
         ensures topped { SlotTops (laid self.now.records.now self.now.slots.now) self.now.slots.now heads.new to }
     {
-        for i in from..to {
-            let slot = self.slots[i];
+        for &slot in &self.slots[from..to] {
             let chain = self.records[slot as usize].item as usize % CHAINS;
             next[slot as usize] = heads[chain];
             heads[chain] = slot + 1;
