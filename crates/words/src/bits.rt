@@ -28,7 +28,7 @@ impl Kind {
         self as u32
     }
 
-    // The kind that has the number, if any.
+    // The kind that has the number, if any: an Option and no TryFrom, since a word of no kind is no error but read as no message.
     pub(crate) fn numbered(number: u32) -> Option<Kind>
         ensures { result ≡ kind_numbered number }
     {

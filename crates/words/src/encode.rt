@@ -18,7 +18,7 @@ pub enum Refusal {
 }
 
 impl Refusal {
-    /// The number of the refusal in the table of all calls: 8 or 10.
+    /// The number of the refusal in the table of all calls, which fixes it: 8 or 10.
     pub fn number(self) -> u32
         ensures { result ≡ refusal_number self }
     {
