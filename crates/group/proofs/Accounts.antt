@@ -18,7 +18,7 @@ module _ (n : ℕ) where
   after_one : (a : Account) (ms : List (List ℕ)) (d : ℕ) (ws : List ℕ) → slice_get ms d ≡ Some ws →
       after_from n a (take (suc d) ms) ≡ next (after_from n a (take d ms)) (message_of n ws)
   after_one a [] d ws e = cc
-  after_one a (x ∷ ms) zero ws e = let f : x ≡ ws = cc in ap (λ y. next a (message_of n y)) f
+  after_one a (x ∷ ms) zero ws e = grind arith
   after_one a (x ∷ ms) (suc d) ws e = after_one (next a (message_of n x)) ms d ws e
 
   pub account_next : (ms : List (List ℕ)) (d : ℕ) (ws : List ℕ) (o : Option MessageValue) (a : Account) → slice_get ms d ≡ Some ws → message_of n ws ≡ o →
@@ -36,14 +36,12 @@ module _ (n : ℕ) where
       )
 
   -- a place adds at most one commit
-  added_few : (d : Decision) (o : Option MessageValue) → length (added d o) ≤ 1
-  added_few d o = grind arith
-
   few_from : (a : Account) (ms : List (List ℕ)) → last_version (after_from n a ms) ≤ last_version a + length ms
   few_from a [] = omega arith
   few_from a (x ∷ ms) =
       let m = message_of n x in
-      omega (arith, few_from (next a m) ms, length-append a.commits (added (decide a m) m), added_few (decide a m) m)
+      let rest = few_from (next a m) ms in
+      grind (arith, length-append {A = Committed})
 
   pub last_within : (ms : List (List ℕ)) (d : ℕ) → last_version (account_after n (take d ms)) ≤ d
   last_within ms d = omega (arith, few_from (opening n) (take d ms), length-take d ms)

@@ -35,31 +35,26 @@ module _ {ms : List (List ℕ)} {ts : List Turn} {m : SiteModel} (s : Sound ms t
       let c = carried m (Read h x) (Value o) q tt in
       let d = the_draft m (Read h x) h c.0 refl in
       let e : EditModel = d.0 in
-      let live : Live h ts m.log.tickets s.low m.store.version e =
-      subst (λ g. Live g ts m.log.tickets s.low m.store.version e) (sym (draft_slot m h e d.1).handle) (draft_right s h e d.1).0 in
+      let drafted = d.1 in
+      let live = rw (← (draft_slot m h e d.1).handle) at (draft_right s h e d.1).0 in
+      let own = live.own x in
+      let reads = s.store.reads e.snapshot x live.from live.to in
       let said = c.1 in
-      let value : o ≡ own_or (own_change (edit_or (drafted m h)).writes x) (read_at m.store x (edit_or (drafted m h)).snapshot) = cc in
-      record {
-        version = e.snapshot;
-        begun = live.begun;
-        value =
-            value ∙ ap (λ y. own_or (own_change (edit_or y).writes x) (read_at m.store x (edit_or y).snapshot)) d.1
-            ∙ ap (λ y. own_or y (read_at m.store x e.snapshot)) (live.own x)
-            ∙ ap (own_or (last_write h x ts)) (s.store.reads e.snapshot x live.from live.to);
-      }
+      record { version = e.snapshot; begun = live.begun; value = cc }
 
   looks_right : (x : ℕ) (o : Option ℤ) → (called m (Look x)).0 ≡ Value o → o ≡ scene cs (seals m.number ts) x
   looks_right x o q =
       let said = (carried m (Look x) (Value o) q tt).1 in
-      let value : o ≡ read_at m.store x m.store.version = cc in
-      value ∙ s.store.reads m.store.version x s.store.within (omega arith) ∙ ap (λ v. scene cs v x) (sym s.slots.count)
+      let reads = s.store.reads m.store.version x s.store.within (omega arith) in
+      let count = s.slots.count in
+      cc
 
   decides_right : (p : ℕ) (ws : List ℕ) (d : Decision) → (called m (Deliver p ws)).0 ≡ Told d → at_place ms p ≡ Some ws → DecidesRight m.sites ms p ws d
   decides_right p ws d q g =
       let c = carried m (Deliver p ws) (Told d) q tt in
       let said = c.1 in
       let same : certified m.log (message_of m.sites ws) ≡ d = cc in
-      subst (DecidesRight m.sites ms p ws) same (delivery_decides s p ws c.0 g)
+      rw same at (delivery_decides s p ws c.0 g)
 
   -- a posted edit, by its handle: decided or pending
   abbrev AwaitedRight : Handle → Option Decision → Type 0
@@ -70,30 +65,21 @@ module _ {ms : List (List ℕ)} {ts : List Turn} {m : SiteModel} (s : Sound ms t
   awaited_right h f =
       elim (awaited_slot m h (not-false _ (passed (table m (Outcome h)) 6 f))) [
         | inl x ↦ (let a = s.slots.each h.slot (posted x.0) x.1.there in
-            subst (λ o. AwaitedRight h (held_decision o)) (sym x.1.there)
-            (subst (λ g. PendingRight g ts) (sym x.1.handle) (record { words = _; posted = a.1; untold = a.0.untold })))
-        | inr x ↦ (
-            subst (λ o. AwaitedRight h (held_decision o)) (sym x.2.there)
-            (subst (λ g. OutcomeRight m.sites cs g x.1 ts) (sym x.2.handle) (s.slots.each h.slot (decided x.0 x.1) x.2.there)))
+            rw x.1.there (subst (λ g. PendingRight g ts) (sym x.1.handle) (record { words = _; posted = a.1; untold = a.0.untold })))
+        | inr x ↦ rw x.2.there (subst (λ g. OutcomeRight m.sites cs g x.1 ts) (sym x.2.handle) (s.slots.each h.slot (decided x.0 x.1) x.2.there))
       ]
 
   tells_right : (h : Handle) (d : Decision) → (called m (Outcome h)).0 ≡ Told d → OutcomeRight m.sites cs h d ts
   tells_right h d q =
       let c = carried m (Outcome h) (Told d) q tt in
-      by_decision (held_decision (slice_get m.slots h.slot)) c.1 (awaited_right h c.0)
-    where
-      by_decision : (o : Option Decision) → outcome_of o ≡ Told d → AwaitedRight h o → OutcomeRight m.sites cs h d ts
-      by_decision None e a = cc
-      by_decision (Some x) e a = let same : x ≡ d = cc in subst (λ y. OutcomeRight m.sites cs h y ts) same a
+      let a = awaited_right h c.0 in
+      grind arith
 
   pends_right : (h : Handle) → (called m (Outcome h)).0 ≡ Pending → PendingRight h ts
   pends_right h q =
       let c = carried m (Outcome h) Pending q tt in
-      by_decision (held_decision (slice_get m.slots h.slot)) c.1 (awaited_right h c.0)
-    where
-      by_decision : (o : Option Decision) → outcome_of o ≡ Pending → AwaitedRight h o → PendingRight h ts
-      by_decision None e a = a
-      by_decision (Some x) e a = cc
+      let a = awaited_right h c.0 in
+      grind arith
 
   pages_right : (v room : ℕ) (ws : List ℕ) → (called m (Page v room)).0 ≡ Wrote ws → WritesRight m.sites ms ws
   pages_right v room ws q =
@@ -101,7 +87,7 @@ module _ {ms : List (List ℕ)} {ts : List Turn} {m : SiteModel} (s : Sound ms t
       let t = λ (k : ℕ). passed (table m (Page v room)) k c.0 in
       let said = c.1 in
       let same : page_words (page_at m.log v) ≡ ws = cc in
-      subst (WritesRight m.sites ms) same (log_writes s.log s.group (whole_log m.mode m.log.whole s.mode (t 1) (t 2)) v)
+      rw same at (log_writes s.log s.group (whole_log m.mode m.log.whole s.mode (t 1) (t 2)) v)
 
   pub turn_right : (c : Call) → Supposed ms ts (a_turn m.number c (called m c).0) → TurnRight m.sites ms (a_turn m.number c (called m c).0) ts
   turn_right c g = record {

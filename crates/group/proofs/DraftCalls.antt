@@ -1,6 +1,8 @@
 -- Drafts and posted edits: begin, put, post, give up, outcome and let go leave a sound site.
-use Rattle.std.proofs.Common.{◌≡◌, ℕ, ◌<◌, ◌≤◌, Bool, true, false, cond, eqb, List, ◌∷◌, length, set, is_some, Some, None, Option, sym, refl, ap, ◌∙◌, subst, arith}
+use Rattle.std.proofs.Common.{◌≡◌, ℕ, ◌+◌, ◌<◌, ◌≤◌, Bool, true, false, cond, eqb, List, ◌∷◌, length, set, is_some, Some, None, Option, sym, refl, ap, ◌∙◌, subst, arith}
 use Rattle.std.proofs.lemmas.Bool.{not-false, leb-false, eqb-false}
+use Rattle.std.proofs.lemmas.Bool.Decides.{nat_tests}
+use Rattle.logs.specs.LogModel.{ticketed}
 use Rattle.words.specs.declared.changes.Write.{Write}
 use Rattle.words.specs.Writes.{write_fits}
 use Rattle.account.specs.declared.decisions.Decision.{Decision}
@@ -12,7 +14,6 @@ use Rattle.site.specs.Spelling.{own_words}
 use Rattle.site.specs.SiteModel.{SiteModel, with_slot}
 use Rattle.site.specs.Calls.{first, Call, Begin, Put, Post, GiveUp, Outcome, LetGo, Answer, Done, ReadOnly, Sent, drafted, awaited, fits_edit, edit_or, sent, slot_sent, outcome_of, after_outcome, or_zero, table, answered, left}
 use Rattle.group.specs.Record.{Turn, a_turn, nothing, deed_of}
-use Rattle.group.proofs.LogSteps.{ticketed_more, ticketed_whole}
 use Rattle.group.proofs.LogSound.{log_tickets}
 use Rattle.group.proofs.Tables.{HoldsEdit, draft_slot}
 use Rattle.group.proofs.SlotsRight.{SlotRight, SlotsRight, slot_emptied}
@@ -24,8 +25,9 @@ module _ {ms : List (List ℕ)} {ts : List Turn} {m : SiteModel} (s : Sound ms t
   pub begin_kept : first (table m Begin) ≡ None → Sound ms (a_turn m.number Begin (answered m Begin) ∷ ts) (left m Begin)
   begin_kept f =
       let few : m.log.tickets < 268435455 = leb-false 268435455 m.log.tickets (passed (table m Begin) 5 f) in
-      let more = ticketed_more m.log few in
-      let mode = subst (Fits m.mode) (sym (ticketed_whole m.log)) s.mode in
+      let more : (ticketed m.log).tickets ≡ m.log.tickets + 1 = grind (arith, nat_tests) in
+      let same : (ticketed m.log).whole ≡ m.log.whole = grind (arith, nat_tests) in
+      let mode = subst (Fits m.mode) (sym same) s.mode in
       let slots = subst
       (λ k. SlotsRight m.sites (commits_of m.sites ms) m.number (a_turn m.number Begin (answered m Begin) ∷ ts) k s.low
       m.store.version (left m Begin).slots) (sym more) (slots_begun s.slots (or_zero (lowest_empty m.slots)) s.store.within) in
@@ -47,24 +49,20 @@ module _ {ms : List (List ℕ)} {ts : List Turn} {m : SiteModel} (s : Sound ms t
     put_found : (w : Write) → write_fits 0 w ≡ true → fits_edit (drafted m h) w ≡ true →
         Sound ms (a_turn m.number (Put h w) Done ∷ ts) (with_slot m h.slot (opened (rewritten (edit_or (drafted m h)) w)))
     put_found w f g =
-        subst (λ o. Sound ms (a_turn m.number (Put h w) Done ∷ ts) (with_slot m h.slot (opened (rewritten (edit_or o) w)))) (sym d)
-        (sound_slots s _ (set m.slots h.slot (opened (rewritten e w)))
-        (subst (λ k. SlotsBy ms m s.low (a_turn m.number (Put k w) Done ∷ ts) (set m.slots h.slot (opened (rewritten e w)))) (sym found.handle)
-        (slots_put s.slots h.slot e draft_right w f (ap (λ o. fits_edit o w) (sym d) ∙ g))))
+        rw d (sound_slots s _ (set m.slots h.slot (opened (rewritten e w)))
+        (rw found.handle (slots_put s.slots h.slot e draft_right w f (rw d at g))))
 
     post_by : (room : ℕ) (b : Bool) → eqb (length e.writes) 0 ≡ b →
         Sound ms (a_turn m.number (Post h room) (cond b ReadOnly (Sent h (own_words m.number e))) ∷ ts) (with_slot m h.slot (cond b empty (posted e)))
     post_by room true q = quiet_emptied (Post h room) ReadOnly h.slot refl
     post_by room false q =
         sound_slots s _ (set m.slots h.slot (posted e))
-        (subst (λ k. SlotsBy ms m s.low (a_turn m.number (Post k room) (Sent k (own_words m.number e)) ∷ ts) (set m.slots h.slot (posted e)))
-        (sym found.handle) (slots_posted s.slots h.slot e draft_right room (let some = eqb-false (length e.writes) 0 q in omega arith)))
+        (rw found.handle (slots_posted s.slots h.slot e draft_right room (grind (arith, nat_tests))))
 
     post_found : (room : ℕ) →
         Sound ms (a_turn m.number (Post h room) (sent m h (edit_or (drafted m h))) ∷ ts) (with_slot m h.slot (slot_sent (edit_or (drafted m h))))
     post_found room =
-        subst (λ o. Sound ms (a_turn m.number (Post h room) (sent m h (edit_or o)) ∷ ts) (with_slot m h.slot (slot_sent (edit_or o)))) (sym d)
-        (post_by room (eqb (length e.writes) 0) refl)
+        rw d (post_by room (eqb (length e.writes) 0) refl)
 
   pub put_kept : (h : Handle) (w : Write) → first (table m (Put h w)) ≡ None →
       Sound ms (a_turn m.number (Put h w) (answered m (Put h w)) ∷ ts) (left m (Put h w))

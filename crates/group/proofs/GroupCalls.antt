@@ -12,9 +12,6 @@ use Rattle.group.specs.Groups.{called_in, called_at}
 use Rattle.group.proofs.RunLaw.{goes_on}
 
 module _ {C : Type 0} (model : C → SiteModel) (xs : List C) (i : ℕ) where
-  pub no_site : length xs ≤ i → slice_get (map model xs) i ≡ None
-  no_site past = slice_get_past (map model xs) i (rw length-map past)
-
   module _ (x : C) (within : i < length xs) (there : x ≡ get_or xs i x) where
     pub the_site : slice_get (map model xs) i ≡ Some (model x)
     the_site = slice_get-map model xs i ∙ ap (option_map model) (slice_get_read xs (length xs) i x refl within there)
@@ -22,11 +19,9 @@ module _ {C : Type 0} (model : C → SiteModel) (xs : List C) (i : ℕ) where
     module _ (c : Call) (y : C) (a : Answer) (done : (a, model y) ≡ called (model x) c) where
       pub one_call : (Some a, map model (set xs i y)) ≡ called_at (map model xs) i c
       one_call =
-          ap (λ l. (Some a, l)) (map-set model xs i y) ∙ ap (λ (p : Answer × SiteModel). (Some p.0, set (map model xs) i p.1)) done
-          ∙ ap (λ o. called_in (map model xs) i o c) (sym the_site)
+          rw (map-set, the_site) (ap (λ (p : Answer × SiteModel). (Some p.0, set (map model xs) i p.1)) done)
 
       pub one_goes_on : GoesOn (map model xs) (map model (set xs i y)) (a_turn i c a)
       one_goes_on =
-          subst (λ l. GoesOn (map model xs) l (a_turn i c a)) (sym (map-set model xs i y))
-          (subst (λ (p : Answer × SiteModel). GoesOn (map model xs) (set (map model xs) i p.1) (a_turn i c p.0)) (sym done)
+          rw map-set (subst (λ (p : Answer × SiteModel). GoesOn (map model xs) (set (map model xs) i p.1) (a_turn i c p.0)) (sym done)
           (goes_on (map model xs) i (model x) c the_site))

@@ -3,7 +3,7 @@ use Rattle.std.proofs.Common.{◌≡◌, ℕ, suc, ◌+◌, ◌-◌, ◌≤◌, 
 use lib.Seq.{drop-append-add}
 use Rattle.std.specs.List.{slice_get}
 use Rattle.std.proofs.lemmas.List.{length-append, length-map}
-use Rattle.std.proofs.lemmas.Bool.{ltb-false}
+use Rattle.std.proofs.lemmas.Bool.Decides.{nat_tests}
 use Rattle.words.specs.declared.changes.Write.{Write}
 use Rattle.words.specs.Messages.{MessageValue, an_edit, a_report, message_of}
 use Rattle.account.specs.declared.decisions.Decision.{Decision}
@@ -14,12 +14,6 @@ use Rattle.logs.specs.LogModel.{LogModel, last_version, least}
 use Rattle.site.specs.Certify.{as_commit, clash_above, judged_by, certified}
 use Rattle.group.specs.Law.{DecidesRight}
 use Rattle.group.proofs.Leasts.{same_least}
-
--- a ruling asks for the clash only of an edit that is not too old
-same_ruling : (ahead old : Bool) (a b : Option ℕ) (last : ℕ) → (old ≡ false → a ≡ b) → ruling ahead old a last ≡ ruling ahead old b last
-same_ruling true old a b last h = refl
-same_ruling false true a b last h = refl
-same_ruling false false a b last h = ap (λ o. ruling false false o last) (h refl)
 
 -- a log whose entries follow on the commits up to its floor
 module _ (l : LogModel) (past : List Committed) (counts : length past ≡ l.floor) where
@@ -40,15 +34,15 @@ module _ (l : LogModel) (past : List Committed) (counts : length past ≡ l.floo
   module _ (low : l.floor ≤ least l.known) where
     same_judged : (s : ℕ) (ws : List Write) → judged_by l s ws ≡ judged (an_account commits l.known) s ws
     same_judged s ws =
-        same_ruling (ltb (last_version l) s) (ltb s (least l.known)) _ _ (last_version l)
-        (λ o. same_clash s ws (omega (arith, ltb-false s (least l.known) o)))
-        ∙ ap (λ k. ruling (ltb k s) (ltb s (least l.known)) (lowest_clash ws s (drop s commits)) k) (sym last_is)
-        ∙ ap (λ k. ruling (ltb (length commits) s) (ltb s k) (lowest_clash ws s (drop s commits)) (length commits)) (same_least l.known)
+        let clash = same_clash s ws in
+        let last = last_is in
+        let least = same_least l.known in
+        grind (arith, nat_tests)
 
     pub certified_is : (o : Option MessageValue) → certified l o ≡ decide (an_account commits l.known) o
-    certified_is None = refl
-    certified_is (Some (a_report i r)) = refl
     certified_is (Some (an_edit h t s ws)) = same_judged s ws
+    certified_is None = refl
+    certified_is (Some m) = refl
 
 -- what the account decides at a place
 pub decides_right : (n : ℕ) (ms : List (List ℕ)) (k : ℕ) (ws : List ℕ) (d : Decision) → slice_get ms k ≡ Some ws →

@@ -1,5 +1,5 @@
 -- A call, declined or carried out, leaves a sound site of the same number in the same group.
-use Rattle.std.proofs.Common.{◌≡◌, ℕ, List, [], ◌∷◌, is_some, Some, None, Option, refl}
+use Rattle.std.proofs.Common.{◌≡◌, ℕ, List, [], ◌∷◌, is_some, Some, None, Option, refl, arith}
 use Rattle.std.specs.List.{slice_get, All, Contains}
 use Rattle.std.proofs.lemmas.List.Elements.{All-nil, All-cons, All-contains}
 use Rattle.std.proofs.lemmas.Bool.{cond_both}
@@ -63,33 +63,16 @@ module _ (m : SiteModel) where
   abbrev Placed : SiteModel → Type 0
   Placed after = (after.number ≡ m.number) × (after.sites ≡ m.sites)
 
-  outcome_placed : (h : Handle) (o : Option Decision) → Placed (after_outcome m h o)
-  outcome_placed h None = (refl, refl)
-  outcome_placed h (Some d) = (refl, refl)
-
   page_placed : (o : Option PageValue) → Placed (after_page m o)
-  page_placed None = (refl, refl)
-  page_placed (Some p) = (refl, refl)
-
-  write_placed : (k : ℕ) (o : Option Write) → Placed (stepped_in m k o).1
-  write_placed k None = (refl, refl)
-  write_placed k (Some w) = (refl, refl)
-
-  step_placed : (o : Option ℕ) → Placed (stepped m o).1
-  step_placed None = cond_both (is_behind m) _ _ (λ (r : Answer × SiteModel). Placed r.1) (λ _. (refl, refl)) (λ _. (refl, refl))
-  step_placed (Some k) = write_placed k (write_of (entry_at m.log _) k)
+  page_placed o = grind arith
 
   left_placed : (c : Call) → Placed (left m c)
-  left_placed (GiveUp h) = cond_both (is_some (drafted m h)) _ m Placed (λ _. (refl, refl)) (λ _. (refl, refl))
-  left_placed (Outcome h) = outcome_placed h (held_decision (slice_get m.slots h.slot))
-  left_placed (LetGo h) = cond_both (awaited m h) _ m Placed (λ _. (refl, refl)) (λ _. (refl, refl))
-  left_placed Step = step_placed m.change
+  left_placed (GiveUp h) = grind arith
+  left_placed (Outcome h) = grind arith
+  left_placed (LetGo h) = grind arith
+  left_placed Step = grind arith
   left_placed (Take ws) = page_placed (page_of m.sites ws)
   left_placed _ = (refl, refl)
 
   pub called_placed : (c : Call) → ((called m c).1.number ≡ m.number) × ((called m c).1.sites ≡ m.sites)
-  called_placed c = by_refusal (first (table m c))
-    where
-      by_refusal : (o : Option ℕ) → Placed (by_table o m c).1
-      by_refusal None = left_placed c
-      by_refusal (Some k) = (refl, refl)
+  called_placed c = let p = left_placed c in grind arith

@@ -2,7 +2,8 @@
 use Rattle.std.proofs.Common.{◌≡◌, ℕ, zero, suc, ◌<◌, ◌≤◌, min, max, true, eqb, leb, List, [], ◌∷◌, length, set, replicate, Some, None, Option, refl, ap, arith}
 use Rattle.std.specs.List.{slice_get}
 use Rattle.std.proofs.lemmas.Option.{slice_get-get_or}
-use Rattle.std.proofs.lemmas.Bool.{and_parts, and_from, leb-true, le-leb, eqb-true}
+use Rattle.std.proofs.lemmas.Bool.{and_parts, leb-true}
+use Rattle.std.proofs.lemmas.Bool.Decides.{nat_tests}
 use Rattle.words.specs.Bits.{every}
 use Rattle.words.specs.Messages.{MessageValue, an_edit, a_report}
 use Rattle.account.specs.Account.{Account, raise, heard, last_version, least as account-least}
@@ -25,13 +26,13 @@ least_covers (k ∷ []) (j ∷ []) e h = leb-true k j (and_parts (leb k j) true 
 least_covers (k ∷ []) (j ∷ (i ∷ js)) e h = absurd (omega arith)
 least_covers (k ∷ (l ∷ ks)) (j ∷ []) e h = absurd (omega arith)
 least_covers (k ∷ (l ∷ ks)) (j ∷ (i ∷ js)) e h =
-    let p = and_parts (leb k j) (covers (l ∷ ks) (i ∷ js)) h in
-    omega (arith, leb-true k j p.0, least_covers (l ∷ ks) (i ∷ js) (omega arith) p.1)
+    let rest = least_covers (l ∷ ks) (i ∷ js) in
+    grind (arith, nat_tests)
 
 -- numbers none of which is above a top
 pub up_to_every : (top : ℕ) (ks : List ℕ) → AllUpTo top ks → every (λ k. leb k top) ks ≡ true
 up_to_every top [] u = refl
-up_to_every top (k ∷ ks) u = and_from _ _ (le-leb k top u.0) (up_to_every top ks u.1)
+up_to_every top (k ∷ ks) u = let rest = up_to_every top ks u.1 in grind (arith, nat_tests)
 
 pub up_to_at : (top : ℕ) (ks : List ℕ) (i : ℕ) → AllUpTo top ks → number_or_zero (slice_get ks i) ≤ top
 up_to_at top [] i u = omega arith
@@ -41,16 +42,14 @@ up_to_at top (k ∷ ks) (suc i) u = up_to_at top ks i u.1
 pub every_within : (top : ℕ) (ks : List ℕ) → top ≤ 268435455 → every (λ k. leb k top) ks ≡ true → all_within ks ≡ true
 every_within top [] h e = refl
 every_within top (k ∷ ks) h e =
-    let p = and_parts (leb k top) (every (λ k. leb k top) ks) e in
-    and_from _ _ (le-leb k limit (omega (arith, leb-true k top p.0))) (every_within top ks h p.1)
+    let rest = every_within top ks h in
+    grind (arith, nat_tests)
 
 pub all_zeros : (ks : List ℕ) → every is_zero ks ≡ true → ks ≡ replicate (length ks) 0
 all_zeros [] e = refl
 all_zeros (k ∷ ks) e =
-    let p = and_parts (eqb k 0) (every is_zero ks) e in
-    let f = eqb-true k 0 p.0 in
-    let g = all_zeros ks p.1 in
-    cc
+    let rest = all_zeros ks in
+    grind (arith, nat_tests)
 
 pub raise_noted : (ks : List ℕ) (i r : ℕ) → i < length ks → set ks i (max (number_or_zero (slice_get ks i)) r) ≡ raise ks i r
 raise_noted ks i r h = raise_set ks i r _ h (ap (λ o. max (number_or_zero o) r) (slice_get-get_or ks i 0 h))

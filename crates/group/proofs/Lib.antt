@@ -3,7 +3,6 @@ mod Nths
 mod Accounts
 mod Leasts
 mod LogForms
-mod LogSteps
 mod Judged
 mod PagesRight
 mod LogSound

@@ -1,14 +1,18 @@
--- What each function of a log leaves where it is carried out.
-use Rattle.std.proofs.Common.{◌≡◌, ℕ, ◌+◌, ◌<◌, ◌≤◌, true, ltb, leb, List, [], ◌∷◌, ◌++◌, length, set, replicate, Some, sym, ap, ◌∙◌, arith}
+-- What each function of a log leaves where it is carried out, and what it does not change.
+use Rattle.std.proofs.Common.{◌≡◌, ℕ, ◌+◌, ◌<◌, ◌≤◌, true, ltb, leb, List, [], ◌∷◌, ◌++◌, length, set, replicate, Some, Option, sym, ap, ◌∙◌, arith}
 use Rattle.std.proofs.lemmas.Bool.{and_parts, lt-ltb, cond-true}
 use Rattle.std.proofs.lemmas.Bool.Decides.{nat_tests}
 use Rattle.words.specs.Bits.{every}
-use Rattle.words.specs.Pages.{a_closing, page_of}
+use Rattle.words.specs.Messages.{MessageValue}
+use Rattle.words.specs.Pages.{PageValue, a_closing, page_of}
 use Rattle.words.proofs.PageSpelling.{page_spelling}
 use Rattle.logs.specs.LogModel.{Entry, LogModel, Marks, limit, a_log, a_mark, held, marks, with_entries, last_version, can_append, appended, can_commit, committed, can_copy, copied, passed, noted, closed, mark_cleared, mark_passed, all_within}
 use Rattle.logs.proofs.Holding.{append_taken}
 use Rattle.logs.proofs.Numbers.{noted_is as mark-noted-is, closed_is as mark-closed-is}
 use Rattle.site.specs.Making.{is_zero, is_fresh_log}
+use Rattle.std.proofs.lemmas.List.{length_push}
+use Rattle.site.specs.Certify.{log_after}
+use Rattle.site.specs.CatchUp.{log_taken}
 use Rattle.group.proofs.Leasts.{every_within, all_zeros}
 
 -- other entries above the same floor, and the marks of the next place
@@ -20,23 +24,34 @@ next_mark l ks = a_mark (l.place + 1) ks l.tickets l.whole
 
 module _ (l : LogModel) where
   pub passed_is : l.place < 268435455 → passed l ≡ with_held l l.entries (next_mark l l.known)
-  passed_is h = ap (a_log (held l)) (cond-true (ltb l.place limit) (next_mark l l.known) (marks l) (lt-ltb l.place limit h))
+  passed_is h = grind (arith, nat_tests)
 
   pub noted_is : (i k : ℕ) → i < length l.known → k ≤ 268435455 → l.place < 268435455 →
       noted l i k ≡ with_held l l.entries (next_mark l (set l.known i k))
-  noted_is i k own small room = ap (a_log (held l)) (sym (mark-noted-is (marks l) i k own small room))
+  noted_is i k own small room = grind (arith, nat_tests)
 
   pub committed_is : (e : Entry) → can_commit l e ≡ true → committed l e ≡ with_held l (l.entries ++ (e ∷ [])) (next_mark l l.known)
-  committed_is e h =
-      let p = and_parts (ltb l.place limit) (can_append (held l) e) h in
-      cond-true (can_commit l e) (a_log (appended (held l) e) (mark_passed (marks l))) l h
-      ∙ ap (a_log (appended (held l) e)) (cond-true (ltb l.place limit) (next_mark l l.known) (marks l) p.0)
-      ∙ ap (λ x. a_log x (next_mark l l.known)) (append_taken (held l) e p.1)
+  committed_is e h = grind (arith, nat_tests)
 
   pub copied_is : (e : Entry) → can_copy l e ≡ true → copied l e ≡ with_held l (l.entries ++ (e ∷ [])) (mark_cleared (marks l))
-  copied_is e h =
-      cond-true (can_copy l e) (a_log (appended (held l) e) (mark_cleared (marks l))) l h
-      ∙ ap (λ x. a_log x (mark_cleared (marks l))) (append_taken (held l) e h)
+  copied_is e h = grind (arith, nat_tests)
+
+-- the floor and the tickets stay, and the last version does not fall
+pub record Grows (l l' : LogModel) : Type 0 where
+  pub floor : l'.floor ≡ l.floor
+  pub last : last_version l ≤ last_version l'
+  pub tickets : l'.tickets ≡ l.tickets
+
+module _ (l : LogModel) where
+  -- a message, and a page
+  pub after_on : (o : Option MessageValue) → Grows l (log_after l o)
+  after_on o = grind (arith, nat_tests, length_push)
+
+  pub after_whole : (o : Option MessageValue) → (log_after l o).whole ≡ l.whole
+  after_whole o = grind (arith, nat_tests)
+
+  pub taken_on : (p : PageValue) → Grows l (log_taken l p)
+  taken_on p = grind (arith, nat_tests, length_push)
 
 -- a closing page that is read in a group
 pub record Closes (n d : ℕ) (ks : List ℕ) : Type 0 where
@@ -52,7 +67,7 @@ closes n v d ks ws e =
 
 pub closed_is : (n d : ℕ) (ks : List ℕ) (l : LogModel) → length l.known ≡ n → Closes n d ks →
     closed l d ks ≡ with_held l l.entries (a_mark d ks l.tickets true)
-closed_is n d ks l size c = ap (a_log (held l)) (sym (mark-closed-is (marks l) d ks (c.many ∙ sym size) c.place c.within))
+closed_is n d ks l size c = grind (arith, nat_tests)
 
 -- a log that nothing has happened to
 pub record Unused (n : ℕ) (l : LogModel) : Type 0 where

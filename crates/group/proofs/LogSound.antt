@@ -3,7 +3,7 @@ use Rattle.std.proofs.Common.{◌≡◌, ℕ, zero, suc, ◌+◌, ◌-◌, ◌<�
 use Rattle.std.specs.List.{slice_get}
 use Rattle.std.specs.Option.{option_map}
 use Rattle.std.proofs.lemmas.Option.{slice_get-map}
-use Rattle.std.proofs.lemmas.List.{append_assoc, append-nil, map-append, map_push, take-append-drop, take_at, length-append, length-map, length_push, length-take, nil_from_length}
+use Rattle.std.proofs.lemmas.List.{append_assoc, append-nil, map-append, map_push, take-append-drop, take_at, length-append, length-map, length_push, length-take, length-drop, nil_from_length}
 use Rattle.std.proofs.lemmas.Bool.{and_parts, not-false, eqb-true, cond_both, false≢true}
 use Rattle.std.proofs.lemmas.Bool.Decides.{nat_tests}
 use Rattle.words.specs.declared.changes.Write.{Write}
@@ -29,7 +29,6 @@ use Rattle.group.proofs.Nths.{nth_left, nth_right, nth_after}
 use Rattle.group.proofs.Accounts.{account_next, commits_front}
 use Rattle.group.proofs.Leasts.{same_least, least_covers, up_to_at, raise_noted, length_heard}
 use Rattle.group.proofs.LogForms.{with_held, next_mark, passed_is, noted_is, committed_is, copied_is, closes, closed_is, unused}
-use Rattle.group.proofs.LogSteps.{trimmed_last}
 use Rattle.group.proofs.Judged.{last_is, certified_is, decides_right}
 use Rattle.group.proofs.PagesRight.{page_writes}
 
@@ -69,12 +68,6 @@ log_starts {n} {i} {m} ms f =
     rw same (fresh_sound n ms l f.size fresh)
 
 module _ {n : ℕ} {ms : List (List ℕ)} {l : LogModel} (s : LogSound n ms l) where
-  pub log_size : length l.known ≡ n
-  log_size = s.size
-
-  pub log_last : last_version l ≤ 268435455
-  log_last = s.last_bound
-
   pub log_has : LogRight (commits_of n ms) l
   log_has zero e h = absurd (omega (arith, above_floor (held l) zero e h))
   log_has (suc v) e h =
@@ -91,32 +84,17 @@ module _ {n : ℕ} {ms : List (List ℕ)} {l : LogModel} (s : LogSound n ms l) w
   remarked : (k : Marks) → l.floor ≤ least k.known → length k.known ≡ n → k.place ≤ 268435455 →
       (k.whole ≡ true → account_after n (take k.place ms) ≡ an_account (s.past ++ map as_commit l.entries) k.known) →
       LogSound n ms (a_log (held l) k)
-  remarked k low size place whole =
-      record {
-        past = s.past;
-        rest = s.rest;
-        counts = s.counts;
-        joins = s.joins;
-        low = low;
-        size = size;
-        last_bound = s.last_bound;
-        place_bound = place;
-        whole = whole;
-      }
+  remarked k low size place whole = search
 
   pub log_tickets : LogSound n ms (ticketed l)
-  log_tickets =
-      let more = a_mark l.place l.known (l.tickets + 1) l.whole in
-      cond_both (ltb l.tickets limit) more (marks l) (λ k. LogSound n ms (a_log (held l) k))
-      (λ _. remarked more s.low s.size s.place_bound s.whole) (λ _. s)
+  log_tickets = grind (arith, nat_tests)
 
   pub log_trims : (v : ℕ) → v ≤ least l.known → LogSound n ms (trimmed l v)
   log_trims v h =
       let k : ℕ = min v (last_version l) - l.floor in
       let es = l.entries in
       let same : (s.past ++ map as_commit (take k es)) ++ map as_commit (drop k es) ≡ s.past ++ map as_commit es =
-      append_assoc s.past (map as_commit (take k es)) (map as_commit (drop k es))
-      ∙ ap (λ x. s.past ++ x) (sym (map-append as_commit (take k es) (drop k es)) ∙ ap (map as_commit) (take-append-drop k es)) in
+      simp (append_assoc, ← map-append, take-append-drop) in
       record {
         past = s.past ++ map as_commit (take k es);
         rest = s.rest;
@@ -124,7 +102,7 @@ module _ {n : ℕ} {ms : List (List ℕ)} {l : LogModel} (s : LogSound n ms l) w
         joins = s.joins ∙ ap (λ x. x ++ s.rest) (sym same);
         low = omega (arith, s.low);
         size = s.size;
-        last_bound = omega (arith, trimmed_last l v, s.last_bound);
+        last_bound = omega (arith, length-drop k es, s.last_bound);
         place_bound = s.place_bound;
         whole = λ w. s.whole w ∙ ap (λ x. an_account x l.known) (sym same);
       }
@@ -156,12 +134,10 @@ module _ {n : ℕ} {ms : List (List ℕ)} {l : LogModel} (s : LogSound n ms l) w
             l.floor + length es ≤ 268435455 → LogSound n ms (with_held l es (next_mark l ks))
         next_sound es ks grown hears high =
             let front = commits_front n ms (l.place + 1) in
-            let commits : so_far.commits ++ added (decide so_far o) o ≡ s.past ++ map as_commit es =
-            ap (λ d. so_far.commits ++ added d o) (sym (decided o)) ∙ append_assoc s.past (map as_commit l.entries) (added (certified l o) o)
-            ∙ ap (λ x. s.past ++ x) (sym grown) in
-            let new : account_after n (take (l.place + 1) ms) ≡ an_account (s.past ++ map as_commit es) ks =
-            account_next n ms l.place ws o so_far there read (s.whole whole)
-            ∙ ap (λ x. an_account x (heard so_far o)) commits ∙ ap (an_account (s.past ++ map as_commit es)) (sym hears) in
+            let step = account_next n ms l.place ws o so_far there read (s.whole whole) in
+            let same = decided o in
+            let commits : so_far.commits ++ added (decide so_far o) o ≡ s.past ++ map as_commit es = grind (arith, append_assoc {A = Committed}) in
+            let new : account_after n (take (l.place + 1) ms) ≡ an_account (s.past ++ map as_commit es) ks = cc in
             record {
               past = s.past;
               rest = front.0;
@@ -177,8 +153,7 @@ module _ {n : ℕ} {ms : List (List ℕ)} {l : LogModel} (s : LogSound n ms l) w
         passes : l.known ≡ heard so_far o → added (certified l o) o ≡ [] → LogSound n ms (passed l)
         passes hears none =
             let es = map as_commit l.entries in
-            subst (LogSound n ms) (sym (passed_is l room))
-            (next_sound l.entries l.known (sym (append-nil es) ∙ ap (λ x. es ++ x) (sym none)) hears s.last_bound)
+            rw (passed_is l room) (next_sound l.entries l.known (sym (append-nil es) ∙ ap (λ x. es ++ x) (sym none)) hears s.last_bound)
 
       report_sound : (i r : ℕ) → message_of n ws ≡ Some (a_report i r) → LogSound n ms (heard_by l i r)
       report_sound i r read =
@@ -186,8 +161,7 @@ module _ {n : ℕ} {ms : List (List ℕ)} {l : LogModel} (s : LogSound n ms l) w
           let known = rw (s.whole whole) at (known_up_to_last n (take l.place ms)) in
           let k : ℕ = max (number_or_zero (slice_get l.known i)) (min r (last_version l)) in
           let small : k ≤ 268435455 = omega (arith, up_to_at _ l.known i known, last, s.last_bound) in
-          subst (LogSound n ms) (sym (noted_is l i k own small room))
-          (next_sound (Some (a_report i r)) read l.entries (set l.known i k) (sym (append-nil (map as_commit l.entries)))
+          rw (noted_is l i k own small room) (next_sound (Some (a_report i r)) read l.entries (set l.known i k) (sym (append-nil (map as_commit l.entries)))
           (raise_noted l.known i (min r (last_version l)) own ∙ ap (λ v. raise l.known i (min r v)) (sym last)) s.last_bound)
 
       module _ (h t x : ℕ) (us : List Write) (read : message_of n ws ≡ Some (an_edit h t x us)) where
@@ -198,18 +172,13 @@ module _ {n : ℕ} {ms : List (List ℕ)} {l : LogModel} (s : LogSound n ms l) w
         uncommitted d e none = passes (Some (an_edit h t x us)) read refl (ap (λ y. added y (Some (an_edit h t x us))) e ∙ none)
 
         edit_sound : (d : Decision) → judged_by l x us ≡ d → (is_commit d && not (can_commit l new_entry)) ≡ false → LogSound n ms (kept l new_entry d)
-        edit_sound Void e taken = uncommitted Void e refl
-        edit_sound Noted e taken = uncommitted Noted e refl
-        edit_sound Ahead e taken = uncommitted Ahead e refl
-        edit_sound TooOld e taken = uncommitted TooOld e refl
-        edit_sound (Conflict w) e taken = uncommitted (Conflict w) e refl
         edit_sound (Commit v) e taken =
             let can = not-false (can_commit l new_entry) taken in
             let fits = append_parts (held l) new_entry (and_parts (ltb l.place limit) (can_append (held l) new_entry) can).1 in
-            subst (LogSound n ms) (sym (committed_is l new_entry can))
-            (next_sound (Some (an_edit h t x us)) read (l.entries ++ (new_entry ∷ [])) l.known
+            rw (committed_is l new_entry can) (next_sound (Some (an_edit h t x us)) read (l.entries ++ (new_entry ∷ [])) l.known
             (map_push as_commit l.entries new_entry ∙ ap (λ d. map as_commit l.entries ++ added d (Some (an_edit h t x us))) (sym e))
             refl (omega (arith, length_push l.entries new_entry, fits.2)))
+        edit_sound d e taken = uncommitted d e refl
 
       by_message : (o : Option MessageValue) → message_of n ws ≡ o → declines l o ≡ false → LogSound n ms (log_after l o)
       by_message None read taken = passes None read refl refl
@@ -241,13 +210,13 @@ module _ {n : ℕ} {ms : List (List ℕ)} {l : LogModel} (s : LogSound n ms l) w
       })
   log_takes ws (a_closing v d ks) e right next room =
       let c = closes n v d ks ws e in
-      let a = and_parts (eqb v (last_version l)) (leb l.place d && covers l.known ks) next in
-      let covering = (and_parts (leb l.place d) (covers l.known ks) a.1).1 in
+      let at : v ≡ last_version l = grind (arith, nat_tests) in
+      let covering : covers l.known ks ≡ true = grind (arith, nat_tests) in
       let then = account_after n (take d ms) in
       let front = commits_front n ms d in
       let commits : then.commits ≡ so_far.commits =
       sym (take_at then.commits front.0 v (sym right.0)) ∙ ap (take v) (sym front.1 ∙ s.joins)
-      ∙ take_at so_far.commits s.rest v (last ∙ sym (eqb-true v (last_version l) a.0)) in
+      ∙ take_at so_far.commits s.rest v (last ∙ sym at) in
       rw (closed_is n d ks l s.size c) (remarked (a_mark d ks l.tickets true)
       (omega (arith, s.low, least_covers l.known ks (s.size ∙ sym c.many) covering)) c.many c.place
       (λ _. ap (λ x. an_account x then.known) commits ∙ ap (an_account so_far.commits) (sym right.1)))

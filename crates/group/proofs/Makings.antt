@@ -1,5 +1,5 @@
 -- The sites that a group is made of: what is tested of them, and that a run begins with them.
-use Rattle.std.proofs.Common.{◌≡◌, ℕ, zero, suc, ◌+◌, ◌<◌, ◌≤◌, true, not, ◌&&◌, List, [], ◌∷◌, map, length, replicate, is_some, Some, None, Option, sym, refl, ap, ◌∙◌, subst, add-one, arith}
+use Rattle.std.proofs.Common.{◌≡◌, ℕ, zero, suc, ◌+◌, ◌<◌, ◌≤◌, true, not, ◌&&◌, List, [], ◌∷◌, map, length, replicate, is_some, Some, None, Option, sym, refl, ap, ◌∙◌, subst, add-one, zero-add, add-zero, suc-add, add-suc, arith}
 use Rattle.std.specs.List.{slice_get, list_all, range_with_len, zip}
 use Rattle.std.proofs.lemmas.List.{length-map}
 use Rattle.std.proofs.lemmas.Bool.{and_parts}
@@ -28,17 +28,8 @@ each_is f n xs e g =
     rw (many, g) (rw (← e) at (each_from f n 0 xs))
 
 -- what a site that passes the test holds
-the_whole : (k : Mode) → is_whole k ≡ true → k ≡ Whole
-the_whole Whole e = refl
-the_whole _ e = cc
-
-no_change : (o : Option ℕ) → not (is_some o) ≡ true → o ≡ None
-no_change None e = refl
-no_change (Some k) e = cc
-
 one_empty : (s : SlotModel) → is_empty s ≡ true → s ≡ empty
-one_empty empty e = refl
-one_empty _ e = cc
+one_empty s e = grind arith
 
 empties : (ss : List SlotModel) → all_empty ss ≡ true → ss ≡ replicate (length ss) empty
 empties [] e = refl
@@ -51,12 +42,10 @@ fresh_site n i m g within b e =
     let number : m.number ≡ i = grind (arith, nat_tests) in
     let sites : m.sites ≡ n = grind (arith, nat_tests) in
     let many : length m.log.known ≡ n = grind (arith, nat_tests) in
-    let whole : is_whole m.mode ≡ true = grind (arith, nat_tests) in
+    let mode : m.mode ≡ Whole = grind (arith, nat_tests) in
     let none : all_empty m.slots ≡ true = grind (arith, nat_tests) in
-    let still : not (is_some m.change) ≡ true = grind (arith, nat_tests) in
-    let mode = the_whole m.mode whole in
     let slots = empties m.slots none in
-    let change = no_change m.change still in
+    let change : m.change ≡ None = grind (arith, nat_tests) in
     let eight = b.eight in
     let same : a_site m.number m.sites m.store m.log m.mode m.slots m.change ≡ new_site i m.store m.log = cc in
     record {
@@ -75,20 +64,16 @@ module _ {C : Type 0} (f : C → SiteModel) (bounded : (x : C) → Bounded (f x)
   fresh_at [] k i m h e q = cc
   fresh_at (x ∷ xs) k zero m h e q =
       let here : f x ≡ m = cc in
-      let same : 0 + k ≡ k = omega arith in
-      subst (λ (j : ℕ). Fresh n j m) (sym same) (subst (λ (y : SiteModel). Fresh n k y) here (fresh_site n k (f x) g (omega arith) (bounded x) (and_parts (is_new n k (f x)) _ e).0))
+      rw (zero-add, ← here) (fresh_site n k (f x) g (omega arith) (bounded x) (and_parts (is_new n k (f x)) _ e).0)
   fresh_at (x ∷ xs) k (suc i) m h e q =
-      let same : i + suc k ≡ suc i + k = omega arith in
-      subst (λ (j : ℕ). Fresh n j m) same (fresh_at xs (suc k) i m (omega arith) (and_parts (is_new n k (f x)) _ e).1 q)
-
-fresh_each : {C : Type 0} (f : C → SiteModel) → ((x : C) → Bounded (f x)) → (xs : List C) → is_group (length (map f xs)) ≡ true →
-    new_from (length (map f xs)) 0 (map f xs) ≡ true → (i : ℕ) (m : SiteModel) → slice_get (map f xs) i ≡ Some m → Fresh (length (map f xs)) i m
-fresh_each f bounded xs g e i m q =
-    let same : i + 0 ≡ i = omega arith in
-    let all : length xs + 0 ≤ length (map f xs) = omega (arith, length-map xs f) in
-    subst (λ (j : ℕ). Fresh (length (map f xs)) j m) same (fresh_at f bounded (length (map f xs)) g xs 0 i m all e q)
+      rw (suc-add, ← add-suc) (fresh_at xs (suc k) i m (omega arith) (and_parts (is_new n k (f x)) _ e).1 q)
 
 pub begins : {C : Type 0} (f : C → SiteModel) → ((x : C) → Bounded (f x)) → (xs : List C) → are_new (map f xs) ≡ true → Starts (map f xs)
 begins f bounded xs e ms =
     let p = and_parts (is_group (length (map f xs))) _ e in
-    starts (record { size = p.0; one_each = refl; fresh = fresh_each f bounded xs p.0 p.1 })
+    let all : length xs + 0 ≤ length (map f xs) = omega (arith, length-map xs f) in
+    starts (record {
+      size = p.0;
+      one_each = refl;
+      fresh = λ i m q. rw add-zero at (fresh_at f bounded (length (map f xs)) p.0 xs 0 i m all p.1 q);
+    })

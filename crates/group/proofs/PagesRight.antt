@@ -17,13 +17,9 @@ PageFits n (an_entry h v t l) = v ≤ 268435455
 PageFits n (a_closing v d ks) = (d ≤ 268435455) × (length ks ≡ n)
 
 module _ (n : ℕ) (ms : List (List ℕ)) (group : is_group n ≡ true) where
-  entry_valid : (h v t : ℕ) (l : List Write) → v ≤ 268435455 → commit_of (commits_of n ms) v ≡ Some (a_commit h t l) → valid_page n (an_entry h v t l) ≡ true
-  entry_valid h zero t l f e = cc
-  entry_valid h (suc v) t l f e =
-      let a = commit_well_made n ms v (a_commit h t l) e in grind (arith, nat_tests)
-
   page_valid : (p : PageValue) → PageFits n p → PageRight n ms p → valid_page n p ≡ true
-  page_valid (an_entry h v t l) f e = entry_valid h v t l f e
+  page_valid (an_entry h zero t l) f e = cc
+  page_valid (an_entry h (suc v) t l) f e = let a = commit_well_made n ms v (a_commit h t l) e in grind (arith, nat_tests)
   page_valid (a_closing v d ks) f e =
       let a = account_after n (take d ms) in
       let low : v ≤ d = omega (arith, e.0, last_within n ms d) in

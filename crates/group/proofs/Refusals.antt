@@ -1,7 +1,7 @@
 -- What a call that is carried out was not refused for, and that its deed is of its own site.
-use Rattle.std.proofs.Common.{◌≡◌, ℕ, Bool, true, false, cond, not, eqb, List, [], ◌∷◌, length, is_some, Some, None, Option, sym, refl, ap, ◌∙◌, subst}
+use Rattle.std.proofs.Common.{◌≡◌, ℕ, Bool, true, false, cond, not, eqb, List, [], ◌∷◌, length, is_some, Some, None, Option, sym, refl, ap, ◌∙◌, subst, arith}
 use Rattle.std.specs.List.{slice_get}
-use Rattle.std.proofs.lemmas.Bool.{cond_both}
+use Rattle.std.proofs.lemmas.Bool.Decides.{nat_tests}
 use Rattle.account.specs.declared.decisions.Decision.{Decision}
 use Rattle.words.specs.declared.changes.Write.{Write}
 use Rattle.logs.specs.LogModel.{entry_at, write_of}
@@ -21,12 +21,7 @@ applies k (l ∷ ls) = cond (eqb l.number k) l.applies (applies k ls)
 
 pub passed : (ls : List Line) (k : ℕ) → first ls ≡ None → applies k ls ≡ false
 passed [] k e = refl
-passed (l ∷ ls) k e = by_line l.applies refl e (passed ls k)
-  where
-    by_line : (b : Bool) → l.applies ≡ b → cond b (Some l.number) (first ls) ≡ None → (first ls ≡ None → applies k ls ≡ false) →
-        cond (eqb l.number k) l.applies (applies k ls) ≡ false
-    by_line true q h rest = cc
-    by_line false q h rest = cond_both (eqb l.number k) l.applies (applies k ls) (λ x. x ≡ false) (λ _. q) (λ _. rest h)
+passed (l ∷ ls) k e = let rest = passed ls k in grind arith
 
 -- Answers of calls that are carried out.
 abbrev pub Carried : Answer → Type 0
@@ -38,12 +33,11 @@ carried m c a e y = by_refusal (first (table m c)) refl e
   where
     by_refusal : (o : Option ℕ) → first (table m c) ≡ o → (by_table o m c).0 ≡ a → (first (table m c) ≡ None) × (answered m c ≡ a)
     by_refusal None f g = (f, g)
-    by_refusal (Some n) f g = absurd (subst Carried (sym g) y)
+    by_refusal (Some n) f g = absurd (rw (← g) at y)
 
 -- where something is not missing
 pub some_of : {A : Type 0} (o : Option A) → not (is_some o) ≡ false → (a : A) × (o ≡ Some a)
-some_of None h = cc
-some_of (Some a) h = (a, refl)
+some_of o h = grind arith
 
 pub the_draft : (m : SiteModel) (c : Call) (h : Handle) → first (table m c) ≡ None → applies 6 (table m c) ≡ not (is_some (drafted m h)) →
     (e : EditModel) × (drafted m h ≡ Some e)
@@ -55,20 +49,13 @@ draft_site m c h f q = let d = the_draft m c h f q in ap (λ x. x.site) (draft_s
 -- the deed of a call is of the site where it was made
 module _ (m : SiteModel) where
   post_site : (h : Handle) (room : ℕ) → h.site ≡ m.number → OfSite m.number (deed_of (sent m h (edit_or (drafted m h))) (Post h room))
-  post_site h room e =
-      cond_both (eqb (length (edit_or (drafted m h)).writes) 0) ReadOnly _ (λ a. OfSite m.number (deed_of a (Post h room))) (λ _. tt) (λ _. e)
+  post_site h room e = grind (arith, nat_tests)
 
   outcome_site : (h : Handle) (o : Option Decision) → OfSite m.number (deed_of (outcome_of o) (Outcome h))
-  outcome_site h None = tt
-  outcome_site h (Some d) = tt
-
-  write_site : (k : ℕ) (o : Option Write) → OfSite m.number (deed_of (stepped_in m k o).0 Step)
-  write_site k None = tt
-  write_site k (Some w) = tt
+  outcome_site h o = grind arith
 
   step_site : (o : Option ℕ) → OfSite m.number (deed_of (stepped m o).0 Step)
-  step_site None = cond_both (is_behind m) _ _ (λ (r : Answer × SiteModel). OfSite m.number (deed_of r.0 Step)) (λ _. tt) (λ _. tt)
-  step_site (Some k) = write_site k (write_of (entry_at m.log _) k)
+  step_site o = grind arith
 
   carried_site : (c : Call) → first (table m c) ≡ None → OfSite m.number (deed_of (answered m c) c)
   carried_site Begin f = refl

@@ -11,7 +11,7 @@ use Rattle.site.specs.Slots.{empty}
 use Rattle.site.specs.SiteModel.{SiteModel}
 use Rattle.site.specs.Making.{can_make, new_site}
 use Rattle.site.specs.Calls.{Call, called}
-use Rattle.group.specs.Record.{Turn, a_turn, deed_of}
+use Rattle.group.specs.Record.{Turn, a_turn, deed}
 use Rattle.group.specs.Law.{TurnRight, RecordRight, LogRight}
 use Rattle.group.specs.Runs.{Fresh, Supposed, Run, starts, goes, RunLaw, GoesOn}
 use Rattle.group.proofs.LogSound.{log_starts, log_has}
@@ -66,7 +66,7 @@ fresh_sound : (n : ℕ) (ms : List (List ℕ)) (i : ℕ) (m : SiteModel) → Fre
 fresh_sound n ms i m f = record {
   number = ap (λ x. x.number) f.new;
   sites = ap (λ x. x.sites) f.new ∙ f.size;
-  sound = subst (Sound ms []) (sym f.new) (new_sound ms i f.store f.log f.makeable f.store_bounded f.log_bounded);
+  sound = rw f.new (new_sound ms i f.store f.log f.makeable f.store_bounded f.log_bounded);
 }
 
 -- All sites are sound, and the record is right.
@@ -86,7 +86,7 @@ module _ (n : ℕ) (ms : List (List ℕ)) (ss : List SiteModel) (ts : List Turn)
   given_here = subst (λ j. Supposed ms ts (a_turn j c (called m c).0)) (sym here.number) given
 
   right_here : RecordRight m.sites ms ts
-  right_here = subst (λ k. RecordRight k ms ts) (sym here.sites) g.right
+  right_here = rw here.sites g.right
 
   after_here : SoundAt n ms (turn ∷ ts) i (called m c).1
   after_here = record {
@@ -101,8 +101,7 @@ module _ (n : ℕ) (ms : List (List ℕ)) (ss : List SiteModel) (ts : List Turn)
       record {
         number = a.number;
         sites = a.sites;
-        sound = sound_elsewhere a.sound turn
-            (subst (λ k. OfSite k (deed_of (called m c).0 c)) here.number (deed_site m c)) (λ p. apart (sym (p ∙ a.number)));
+        sound = sound_elsewhere a.sound turn (subst (λ k. OfSite k (deed turn)) here.number (deed_site m c)) (λ p. apart (sym (p ∙ a.number)));
       }
 
   turn_here : TurnRight n ms turn ts
@@ -120,7 +119,7 @@ run_sound {n} {ms} (goes {ss} {ts} i m c r at given) = turn_sound n ms ss ts (ru
 pub run_law : RunLaw
 run_law n ms ss ts r =
     let g = run_sound r in
-    (g.right, λ i m e. let a = g.each i m e in subst (λ k. LogRight (commits_of k ms) m.log) a.sites (log_has a.sound.log))
+    (g.right, λ i m e. let a = g.each i m e in rw a.sites at (log_has a.sound.log))
 
 -- a turn of any run goes on with it, and the law holds
 pub goes_on : (before : List SiteModel) (i : ℕ) (m : SiteModel) (c : Call) → slice_get before i ≡ Some m →

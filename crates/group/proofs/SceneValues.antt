@@ -1,5 +1,5 @@
 -- Scenes one commit on, by values alone.
-use Rattle.std.proofs.Common.{◌≡◌, ℕ, zero, suc, Bool, true, false, cond, eqb, List, [], ◌∷◌, take, ℤ, Some, None, Option, refl, ap, ◌∙◌}
+use Rattle.std.proofs.Common.{◌≡◌, ℕ, zero, suc, Bool, true, false, cond, eqb, List, [], ◌∷◌, take, ℤ, Some, None, Option, refl, ap, ◌∙◌, arith}
 use Rattle.std.specs.Option.{option_map}
 use Rattle.std.specs.List.{slice_get}
 use Rattle.words.specs.declared.changes.Change.{Change}
@@ -15,9 +15,7 @@ abbrev value_at : Option Placed → Option ℤ
 value_at o = option_map (λ p. p.value) o
 
 one_value : (v : ℕ) (b : Bool) (c : Change) (o : Option Placed) → value_at (cond b (placed_by v c) o) ≡ cond b (value_of c) (value_at o)
-one_value v true (Set z) o = refl
-one_value v true Remove o = refl
-one_value v false c o = refl
+one_value v b c o = grind arith
 
 written_value : (v : ℕ) (l : List Write) (x : ℕ) (o : Option Placed) → value_at (written v l x o) ≡ rewritten x l (value_at o)
 written_value v [] x o = refl

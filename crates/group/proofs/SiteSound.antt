@@ -1,5 +1,6 @@
 -- What holds of a site throughout a run, by the record so far, and how its parts may change.
 use Rattle.std.proofs.Common.{◌≡◌, ℕ, ◌<◌, ◌≤◌, Bool, true, false, List, ◌∷◌, Option, sym, ◌∙◌, subst, arith}
+use Rattle.std.proofs.lemmas.Bool.Decides.{nat_tests}
 use Rattle.words.specs.Bits.{is_group}
 use Rattle.account.specs.Account.{commits_of}
 use Rattle.store.specs.StoreModel.{StoreModel}
@@ -12,7 +13,7 @@ use Rattle.site.specs.SiteModel.{SiteModel, with_store, with_log, with_mode, wit
 use Rattle.site.specs.Calls.{Call, Answer, is_down, is_partial}
 use Rattle.group.specs.Record.{Turn, a_turn, nothing, deed, deed_of, seals, posted_as}
 use Rattle.group.proofs.LogSound.{LogSound}
-use Rattle.group.proofs.Turns.{Same, Misses, same_missed, OfSite, same_elsewhere, Unsealed, seals_same, seals_elsewhere}
+use Rattle.group.proofs.Turns.{Same, OfSite, same_elsewhere}
 use Rattle.group.proofs.SlotsRight.{SlotsRight, slots_on}
 use Rattle.group.proofs.StoreRight.{StoreRight, ChangeRight, change_on}
 
@@ -23,8 +24,7 @@ Fits Partial b = b ≡ false
 Fits Down b = Unit {0}
 
 pub whole_log : (k : Mode) (b : Bool) → Fits k b → is_down k ≡ false → is_partial k ≡ false → b ≡ true
-whole_log Whole b f d p = f
-whole_log _ b f d p = cc
+whole_log k b f d p = grind arith
 
 -- The slots ss of a site by a record, where reads are kept from version `low` on.
 abbrev pub SlotsBy : List (List ℕ) → SiteModel → ℕ → List Turn → List SlotModel → Type 0
@@ -51,19 +51,10 @@ module _ {ms : List (List ℕ)} {ts : List Turn} {m : SiteModel} (s : Sound ms t
   -- another log, whose last version is not lower, and another mode
   pub sound_log : (l : LogModel) (k : Mode) → LogSound m.sites ms l → l.tickets ≡ m.log.tickets → l.floor ≤ m.store.version →
       last_version m.log ≤ last_version l → Fits k l.whole → Sound ms ts (with_mode (with_log m l) k)
-  sound_log l k g t f b z = record {
-    group = s.group;
-    mine = s.mine;
-    log = g;
-    tickets = omega (arith, s.tickets);
-    under = f;
-    over = omega (arith, s.over);
-    mode = z;
-    low = s.low;
-    store = s.store;
-    change = change_on (commits_of m.sites ms) m.store (last_version m.log) (last_version l) m.change b s.change;
-    slots = subst (λ n. SlotsRight m.sites (commits_of m.sites ms) m.number ts n s.low m.store.version m.slots) (sym t) s.slots;
-  }
+  sound_log l k g t f b z =
+      let change = change_on (commits_of m.sites ms) m.store (last_version m.log) (last_version l) m.change b s.change in
+      let slots = rw (← t) at s.slots in
+      search arith
 
   -- another store and change, by another record
   pub sound_store : (us : List Turn) (g : StoreModel) (o : Option ℕ) (low : ℕ) → StoreRight (commits_of m.sites ms) low g →
@@ -79,12 +70,11 @@ module _ {ms : List (List ℕ)} {ts : List Turn} {m : SiteModel} (s : Sound ms t
   -- a turn here that does nothing, and any turn elsewhere
   pub slots_quiet : (c : Call) (a : Answer) → deed_of a c ≡ nothing → SlotsBy ms m s.low (a_turn m.number c a ∷ ts) m.slots
   slots_quiet c a e =
-      slots_same _ (λ h _. same_missed h ts (a_turn m.number c a) (subst (Misses m.number h (posted_as h ts)) (sym e) tt))
-      (seals_same m.number ts (a_turn m.number c a) (subst Unsealed (sym e) tt))
+      slots_same (a_turn m.number c a ∷ ts) (λ h _. grind (arith, nat_tests)) (grind (arith, nat_tests))
 
   pub sound_quiet : (c : Call) (a : Answer) → deed_of a c ≡ nothing → Sound ms (a_turn m.number c a ∷ ts) m
   sound_quiet c a e = sound_slots _ m.slots (slots_quiet c a e)
 
   pub sound_elsewhere : (t : Turn) → OfSite t.site (deed t) → (t.site ≡ m.number → ⊥) → Sound ms (t ∷ ts) m
   sound_elsewhere t o n =
-      sound_slots (t ∷ ts) m.slots (slots_same (t ∷ ts) (λ h e. same_elsewhere h ts t o (λ p. n (p ∙ e))) (seals_elsewhere m.number ts t n))
+      sound_slots (t ∷ ts) m.slots (slots_same (t ∷ ts) (λ h e. same_elsewhere h ts t o (λ p. n (p ∙ e))) (grind (arith, nat_tests)))

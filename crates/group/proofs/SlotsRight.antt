@@ -1,6 +1,7 @@
 -- What the slots of a site owe to the record, and what every turn leaves of that.
 use Rattle.std.proofs.Common.{◌≡◌, ℕ, ◌<◌, ◌≤◌, true, List, ◌∷◌, length, set, replicate, Some, None, sym, refl, ◌∙◌, arith}
 use Rattle.std.specs.List.{slice_get}
+use Rattle.std.proofs.lemmas.Bool.Decides.{nat_tests}
 use Rattle.words.specs.Writes.{fit_from}
 use Rattle.account.specs.Account.{Committed}
 use Rattle.site.specs.declared.handles.Handle.{Handle}
@@ -10,7 +11,7 @@ use Rattle.site.specs.Spelling.{own_words}
 use Rattle.site.specs.Slots.{SlotModel, empty, opened, posted, decided}
 use Rattle.group.specs.Record.{Turn, deed, seals, snapshot, last_write, posted_as, first_told}
 use Rattle.group.specs.Law.{OutcomeRight}
-use Rattle.group.proofs.Turns.{Same, About, same_about, about_unsealed, seals_same, slots_apart, tickets_apart}
+use Rattle.group.proofs.Turns.{Same, About, same_about}
 use Rattle.group.proofs.Tables.{set_each, replicate_each, NeedsFrom}
 
 -- An edit under a handle, open or posted: its ticket was given, its snapshot is still kept, its writes are those of the
@@ -32,26 +33,8 @@ pub record Unheard (h : Handle) (ts : List Turn) : Type 0 where
   pub unposted : posted_as h ts ≡ None
   pub untold : first_told h ts ≡ None
 
-module _ {h : Handle} {ts : List Turn} where
-  pub unheard_on : {us : List Turn} → Same h ts us → Unheard h ts → Unheard h us
-  unheard_on s u = record { unwritten = λ x. s.written x ∙ u.unwritten x; unposted = s.sent ∙ u.unposted; untold = s.told ∙ u.untold }
-
-  module _ {tickets low v : ℕ} {e : EditModel} where
-    live_on : {us : List Turn} {more w : ℕ} → Same h ts us → tickets ≤ more → v ≤ w → Live h ts tickets low v e → Live h us more low w e
-    live_on s a b i = record {
-      first = i.first;
-      given = omega (arith, i.given);
-      from = i.from;
-      to = omega (arith, i.to);
-      few = i.few;
-      fits = i.fits;
-      begun = s.begun ∙ i.begun;
-      own = λ x. i.own x ∙ sym (s.written x);
-      untold = s.told ∙ i.untold;
-    }
-
-    live_from : {new : ℕ} → new ≤ e.snapshot → Live h ts tickets low v e → Live h ts tickets new v e
-    live_from l i = assumption
+unheard_on : {h : Handle} {ts us : List Turn} → Same h ts us → Unheard h ts → Unheard h us
+unheard_on s u = grind arith
 
 -- The slots of site i in a group of n.
 module _ (n : ℕ) (cs : List Committed) (i : ℕ) where
@@ -69,32 +52,13 @@ module _ (n : ℕ) (cs : List Committed) (i : ℕ) where
 
   slot_on : (ts us : List Turn) (tickets more low v w k : ℕ) → ((t : ℕ) → Same (a_handle i k t) ts us) → tickets ≤ more → v ≤ w →
       (s : SlotModel) → SlotRight ts tickets low v k s → SlotRight us more low w k s
-  slot_on ts us tickets more low v w k q a b empty r = tt
-  slot_on ts us tickets more low v w k q a b (opened e) r = (live_on (q e.ticket) a b r.0, (q e.ticket).sent ∙ r.1)
-  slot_on ts us tickets more low v w k q a b (posted e) r = (live_on (q e.ticket) a b r.0, (q e.ticket).sent ∙ r.1, r.2)
-  slot_on ts us tickets more low v w k q a b (decided t d) r = record {
-    told = (q t).told ∙ r.told;
-    words = r.words;
-    posted = (q t).sent ∙ r.posted;
-    version = r.version;
-    begun = (q t).begun ∙ r.begun;
-    writes = r.writes;
-    edit = r.edit;
-    own = λ x. r.own x ∙ sym ((q t).written x);
-    right = r.right;
-  }
+  slot_on ts us tickets more low v w k q a b s r = grind arith
 
   slot_from : (ts : List Turn) (tickets low new v k : ℕ) (s : SlotModel) → NeedsFrom new s → SlotRight ts tickets low v k s → SlotRight ts tickets new v k s
-  slot_from ts tickets low new v k empty l r = tt
-  slot_from ts tickets low new v k (opened e) l r = (live_from l r.0, r.1)
-  slot_from ts tickets low new v k (posted e) l r = (live_from l r.0, r.1, r.2)
-  slot_from ts tickets low new v k (decided t d) l r = r
+  slot_from ts tickets low new v k s l r = grind arith
 
   slot_needs : (ts : List Turn) (tickets low v k : ℕ) (s : SlotModel) → SlotRight ts tickets low v k s → NeedsFrom low s
-  slot_needs ts tickets low v k empty r = tt
-  slot_needs ts tickets low v k (opened e) r = r.0.from
-  slot_needs ts tickets low v k (posted e) r = r.0.from
-  slot_needs ts tickets low v k (decided t d) r = tt
+  slot_needs ts tickets low v k s r = grind arith
 
 module _ {n : ℕ} {cs : List Committed} {i : ℕ} {ts : List Turn} {tickets low v : ℕ} {ss : List SlotModel} (r : SlotsRight n cs i ts tickets low v ss) where
   -- turns that say nothing of the site's handles, or only seal
@@ -111,9 +75,9 @@ module _ {n : ℕ} {cs : List Committed} {i : ℕ} {ts : List Turn} {tickets low
   slots_about a t more s b l m new = record {
     each = set_each (SlotRight n cs i (t ∷ ts) more low v) ss a.slot s
         (λ k x apart e. slot_on n cs i ts (t ∷ ts) tickets more low v v k
-        (λ u. same_about a (a_handle i k u) ts t b (slots_apart a (a_handle i k u) (λ p. apart (sym p)))) l (omega arith) x (r.each k x e)) new;
-    count = seals_same i ts t (about_unsealed a (deed t) b) ∙ r.count;
-    unheard = λ h e new-ticket. unheard_on (same_about a h ts t b (tickets_apart a h (λ p. omega arith))) (r.unheard h e (omega arith));
+        (λ u. same_about a (a_handle i k u) ts t b (grind (arith, nat_tests))) l (omega arith) x (r.each k x e)) new;
+    count = grind (arith, nat_tests);
+    unheard = λ h e new-ticket. unheard_on (same_about a h ts t b (grind (arith, nat_tests))) (r.unheard h e (omega arith));
   }
 
   -- other slots, each right

@@ -1,7 +1,7 @@
 -- Steps: a version is opened, its writes are staged one by one, and it is sealed; each leaves a sound site.
-use Rattle.std.proofs.Common.{◌≡◌, ℕ, suc, ◌+◌, ◌<◌, Bool, true, false, cond, not, ◌&&◌, ltb, List, [], ◌∷◌, length, is_some, Some, None, Option, sym, refl, ap, ◌∙◌, subst, add-one, arith}
+use Rattle.std.proofs.Common.{◌≡◌, ℕ, suc, ◌+◌, ◌<◌, ◌≤◌, Bool, true, false, cond, not, ◌&&◌, ltb, List, [], ◌∷◌, length, is_some, Some, None, Option, sym, refl, ap, ◌∙◌, subst, add-one, arith}
 use Rattle.std.specs.List.{slice_get}
-use Rattle.std.proofs.lemmas.Bool.{ltb-true, ltb-false}
+use Rattle.std.proofs.lemmas.Bool.Decides.{nat_tests}
 use Rattle.words.specs.declared.changes.Write.{Write}
 use Rattle.account.specs.Account.{Committed, commits_of, commit_of}
 use Rattle.store.specs.StoreModel.{space, staged_on, sealed_up}
@@ -11,8 +11,7 @@ use Rattle.site.specs.Certify.{as_commit}
 use Rattle.site.specs.SiteModel.{SiteModel, with_change}
 use Rattle.site.specs.Calls.{first, Step, Answer, Opened, Staged, Sealed, Idle, writes_in, is_behind, lacks_space, upcoming, stepped_in, stepped, table, answered, left}
 use Rattle.group.specs.Record.{Turn, a_turn}
-use Rattle.group.proofs.LogSound.{log_last, log_has}
-use Rattle.group.proofs.Turns.{same_missed, seals_more}
+use Rattle.group.proofs.LogSound.{log_has}
 use Rattle.group.proofs.SlotsRight.{SlotsRight, slots_on}
 use Rattle.group.proofs.StoreRight.{UnderWay, ChangeRight, change_opened, store_staged, change_staged, staged_version, sealed_version, sealed_staged, store_sealed}
 use Rattle.group.proofs.Refusals.{passed}
@@ -39,12 +38,9 @@ module _ {ms : List (List ℕ)} {ts : List Turn} {m : SiteModel} (s : Sound ms t
 
   opens : m.change ≡ None → is_behind m ≡ true → lacks_space m ≡ false → Stepped (Opened, with_change m (Some 0))
   opens c b l =
-      let ahead = ltb-true version last b in
+      let ahead : version < last = grind (arith, nat_tests) in
       let k = next_entry ahead in
-      let short : lacks_space m ≡ ltb (space m.store) (length (upcoming m)) =
-      ap (λ o. not (is_some o) && (is_behind m && ltb (space m.store) (length (upcoming m)))) c
-      ∙ ap (λ x. x && ltb (space m.store) (length (upcoming m))) b in
-      let room = ltb-false (space m.store) (length (upcoming m)) (sym short ∙ l) in
+      let room : length (upcoming m) ≤ space m.store = grind (arith, nat_tests) in
       let many : length (upcoming m) ≡ length k.0.writes = ap (λ o. length (writes_in o)) k.1 in
       let none : m.store.staged ≡ [] = subst (ChangeRight cs last m.store) c s.change in
       sound_store s _ m.store (Some 0) s.low s.store
@@ -61,33 +57,33 @@ module _ {ms : List (List ℕ)} {ts : List Turn} {m : SiteModel} (s : Sound ms t
         let e = next_entry way.ahead in
         let a = e.2 in
         let b = way.there in
+        let there = e.1 in
         let same : as_commit e.0 ≡ way.commit = cc in
-        ap (λ o. write_of o k) e.1 ∙ ap (λ x. slice_get x.writes k) same
+        cc
 
     stages : (w : Write) → slice_get way.commit.writes k ≡ Some w → Stepped (stepped_in m k (Some w))
     stages w e =
         let same = staged_version s.store way w e in
         sound_store s _ (staged_on m.store w) (Some (k + 1)) s.low (store_staged s.store way w e)
         (change_staged s.store way w e) (omega (arith, same, s.under)) (omega (arith, same, s.over))
-        (subst (λ v. SlotsRight m.sites cs m.number (a_turn m.number Step Staged ∷ ts) m.log.tickets s.low v m.slots) (sym same)
-        (slots_quiet s Step Staged refl))
+        (rw same (slots_quiet s Step Staged refl))
 
     seals_up : slice_get way.commit.writes k ≡ None → Stepped (stepped_in m k None)
     seals_up e =
-        let few = log_last s.log in
+        let few = s.log.last_bound in
         let more = sealed_version s.store way few in
         let t : Turn = a_turn m.number Step Sealed in
         sound_store s (t ∷ ts) (sealed_up m.store) None s.low (store_sealed s.store way few e)
         (sealed_staged s.store way few) (omega (arith, more, s.under)) (omega (arith, more, way.ahead))
-        (slots_on s.slots (t ∷ ts) (sealed_up m.store).version (λ h _. same_missed h ts t tt) (omega (arith, more))
-        (seals_more m.number ts t refl refl ∙ ap suc s.slots.count ∙ sym (more ∙ add-one version)))
+        (slots_on s.slots (t ∷ ts) (sealed_up m.store).version (λ h _. grind (arith, nat_tests)) (omega (arith, more))
+        (grind (arith, nat_tests, more, s.slots.count)))
 
     by_write : (o : Option Write) → slice_get way.commit.writes k ≡ o → Stepped (stepped_in m k o)
     by_write None e = seals_up e
     by_write (Some w) e = stages w e
 
     steps_in : Stepped (stepped_in m k (write_of (entry_at m.log (version + 1)) k))
-    steps_in = subst (λ o. Stepped (stepped_in m k o)) (sym next_write) (by_write (slice_get way.commit.writes k) refl)
+    steps_in = rw next_write (by_write (slice_get way.commit.writes k) refl)
 
   steps : (o : Option ℕ) → m.change ≡ o → lacks_space m ≡ false → Stepped (stepped m o)
   steps None c l = by_last (is_behind m) refl

@@ -2,8 +2,9 @@
 use Rattle.std.proofs.Common.{◌≡◌, ℕ, zero, suc, ◌+◌, ◌<◌, ◌≤◌, Bool, true, List, [], ◌∷◌, ◌++◌, map, length, take, Some, None, Option, sym, refl, ap, ◌∙◌, subst, ⊎_elim, add-one, arith, length-append, length-take}
 use lib.ListN.{length-map}
 use Rattle.std.specs.List.{slice_get}
-use Rattle.std.proofs.lemmas.Option.{slice_get_within}
-use Rattle.std.proofs.lemmas.List.{take_all, length_push}
+use Rattle.std.proofs.lemmas.Option.{slice_get_within, get_or_from_slice_get, gets}
+use Rattle.std.proofs.lemmas.List.{take_all, take_more, length_push}
+use Rattle.std.proofs.lemmas.Bool.Decides.{nat_tests}
 use Rattle.std.proofs.lemmas.Bool.{and_parts, and_from, le-leb, lt-ltb, cond-true, cases_lt}
 use Rattle.words.specs.declared.changes.Write.{Write}
 use Rattle.account.specs.Account.{Committed}
@@ -19,29 +20,17 @@ use Rattle.group.proofs.SceneValues.{scene_more}
 
 every_dated : (v : ℕ) (ws : List Write) → every (at_most v) (map (dated v) ws) ≡ true
 every_dated v [] = refl
-every_dated v (w ∷ ws) = and_from _ _ (le-leb v v (omega arith)) (every_dated v ws)
+every_dated v (w ∷ ws) = let rest = every_dated v ws in grind (arith, nat_tests)
 
 every_part : (f : Record → Bool) {xs ys : List Record} → Part xs ys → every f ys ≡ true → every f xs ≡ true
 every_part f none e = refl
-every_part f (kept r {xs} {ys} p) e = let q = and_parts (f r) (every f ys) e in and_from _ _ q.0 (every_part f p q.1)
-every_part f (left_out r {xs} {ys} p) e = every_part f p (and_parts (f r) (every f ys) e).1
+every_part f (kept r p) e = let rest = every_part f p in grind (arith, nat_tests)
+every_part f (left_out r p) e = let rest = every_part f p in grind (arith, nat_tests)
 
 part_length : {xs ys : List Record} → Part xs ys → length xs ≤ length ys
 part_length none = omega arith
 part_length (kept r p) = omega (arith, part_length p)
 part_length (left_out r p) = omega (arith, part_length p)
-
--- The next of some writes, and the end of them
-
-next_write : (l : List Write) (k : ℕ) (w : Write) → slice_get l k ≡ Some w → take (suc k) l ≡ take k l ++ (w ∷ [])
-next_write [] k w e = cc
-next_write (x ∷ l) zero w e = let q : x ≡ w = cc in ap (λ y. y ∷ []) q
-next_write (x ∷ l) (suc k) w e = ap (λ y. x ∷ y) (next_write l k w e)
-
-no_write : (l : List Write) (k : ℕ) → slice_get l k ≡ None → length l ≤ k
-no_write [] k e = omega arith
-no_write (x ∷ l) zero e = cc
-no_write (x ∷ l) (suc k) e = omega (arith, no_write l k e)
 
 module _ (cs : List Committed) where
   -- Reads from version `low` to the store's own are the scenes of the commits.
@@ -65,61 +54,30 @@ module _ (cs : List Committed) where
 
 module _ (cs : List Committed) (s : StoreModel) where
   pub change_on : (last more : ℕ) (o : Option ℕ) → last ≤ more → ChangeRight cs last s o → ChangeRight cs more s o
-  change_on last more None l c = c
-  change_on last more (Some k) l c = let ahead : s.version < more = omega (arith, c.ahead) in search
+  change_on last more o l c = grind arith
 
   pub change_pruned : (h last : ℕ) (o : Option ℕ) → ChangeRight cs last s o → ChangeRight cs last (pruned_to h s) o
-  change_pruned h last None c = (prune_law s h).staged ∙ c
-  change_pruned h last (Some k) c =
+  change_pruned h last o c =
       let law = prune_law s h in
-      record {
-        commit = c.commit;
-        there = ap (slice_get cs) law.version ∙ c.there;
-        ahead = omega (arith, law.version, c.ahead);
-        staged = law.staged ∙ c.staged;
-        count = c.count;
-        room = omega (arith, law.capacity, part_length law.records, c.room);
-      }
+      let less = part_length law.records in
+      grind arith
 
 module _ {cs : List Committed} {low : ℕ} {s : StoreModel} (r : StoreRight cs low s) where
   -- a prune, by its law
   pub store_pruned : (h : ℕ) → low ≤ h → h ≤ s.version → StoreRight cs h (pruned_to h s)
   store_pruned h a b =
       let law = prune_law s h in
-      record {
-        within = omega (arith, law.version);
-        reads = λ v x l m. law.reads x v l ∙ r.reads v x (omega arith) (omega (arith, law.version));
-        bounded = record {
-          capacity_bound = omega (arith, law.capacity, r.bounded.capacity_bound);
-          version_bound = omega (arith, law.version, r.bounded.version_bound);
-          fits = omega (arith, law.capacity, ap length law.staged, part_length law.records, r.bounded.fits);
-          past = ap (λ v. every (at_most v) (pruned_to h s).sealed) law.version ∙ every_part (at_most s.version) law.records r.bounded.past;
-        };
-      }
+      let less = part_length law.records in
+      let past = every_part (at_most s.version) law.records r.bounded.past in
+      grind arith
 
   pub store_dropped : StoreRight cs low (dropped s)
-  store_dropped = record {
-    within = r.within;
-    reads = r.reads;
-    bounded = record {
-      capacity_bound = r.bounded.capacity_bound;
-      version_bound = r.bounded.version_bound;
-      fits = omega (arith, r.bounded.fits);
-      past = r.bounded.past;
-    };
-  }
+  store_dropped = grind arith
 
   -- a change opens
   pub change_opened : {last : ℕ} (c : Committed) → s.staged ≡ [] → slice_get cs s.version ≡ Some c → s.version < last →
       length c.writes ≤ space s → ChangeRight cs last s (Some 0)
-  change_opened c e t a l = record {
-    commit = c;
-    there = t;
-    ahead = a;
-    staged = e;
-    count = omega arith;
-    room = omega (arith, r.bounded.fits, ap length e);
-  }
+  change_opened c e t a l = grind arith
 
   module _ {last k : ℕ} (c : UnderWay cs last k s) where
     -- one more write is staged
@@ -131,27 +89,15 @@ module _ {cs : List Committed} {low : ℕ} {s : StoreModel} (r : StoreRight cs l
       stages = cond-true _ _ _ (lt-ltb 0 (space s) (omega (arith, more, c.room)))
 
       pub store_staged : StoreRight cs low (staged_on s w)
-      store_staged = subst (StoreRight cs low) (sym stages) (record {
-        within = r.within;
-        reads = r.reads;
-        bounded = record {
-          capacity_bound = r.bounded.capacity_bound;
-          version_bound = r.bounded.version_bound;
-          fits = omega (arith, length_push s.staged w, more, c.room);
-          past = r.bounded.past;
-        };
-      })
+      store_staged = grind (arith, nat_tests, length_push)
 
       pub change_staged : ChangeRight cs last (staged_on s w) (Some (k + 1))
-      change_staged = subst (λ x. ChangeRight cs last x (Some (k + 1))) (sym stages) (record {
-        commit = c.commit;
-        there = c.there;
-        ahead = c.ahead;
-        staged =
-            ap (λ l. l ++ (w ∷ [])) c.staged ∙ sym (next_write c.commit.writes k w e) ∙ ap (λ j. take j c.commit.writes) (sym (add-one k));
-        count = omega (arith, more);
-        room = c.room;
-      })
+      change_staged =
+          let next = take_more c.commit.writes k w more.0 in
+          let here = get_or_from_slice_get c.commit.writes k w w e in
+          let staged : s.staged ++ (w ∷ []) ≡ take (k + 1) c.commit.writes = cc in
+          let count : k + 1 ≤ length c.commit.writes = omega (arith, more) in
+          rw stages (search)
 
       pub staged_version : (staged_on s w).version ≡ s.version
       staged_version = ap (λ x. x.version) stages
@@ -161,14 +107,11 @@ module _ {cs : List Committed} {low : ℕ} {s : StoreModel} (r : StoreRight cs l
       open_below : s.version < 268435455
       open_below = omega (arith, c.ahead)
 
-      seals_up : sealed_up s ≡ next_version s
-      seals_up = cond-true _ _ _ (lt-ltb s.version 268435455 open_below)
-
       pub sealed_version : (sealed_up s).version ≡ s.version + 1
-      sealed_version = ap (λ x. x.version) seals_up
+      sealed_version = grind (arith, nat_tests, open_below)
 
       pub sealed_staged : (sealed_up s).staged ≡ []
-      sealed_staged = ap (λ x. x.staged) seals_up
+      sealed_staged = grind (arith, nat_tests, open_below)
 
       sealed_bounded : Bounded (next_version s)
       sealed_bounded =
@@ -184,7 +127,7 @@ module _ {cs : List Committed} {low : ℕ} {s : StoreModel} (r : StoreRight cs l
 
       module _ (e : slice_get c.commit.writes k ≡ None) where
         all_staged : s.staged ≡ c.commit.writes
-        all_staged = c.staged ∙ take_all k c.commit.writes (no_write c.commit.writes k e)
+        all_staged = c.staged ∙ take_all k c.commit.writes (grind (arith, gets))
 
         last_read : (x : ℕ) → read_at (sealed_up s) x (s.version + 1) ≡ scene cs (s.version + 1) x
         last_read x =
@@ -198,10 +141,9 @@ module _ {cs : List Committed} {low : ℕ} {s : StoreModel} (r : StoreRight cs l
         store_sealed = record {
           within = omega (arith, sealed_version, r.within);
           reads = λ v x a b.
-              ⊎_elim
-              (λ h. let q : v ≡ s.version + 1 = omega (arith, sealed_version) in
-              ap (read_at (sealed_up s) x) q ∙ last_read x ∙ ap (λ u. scene cs u x) (sym q))
-              (λ h. (seal_law s).earlier x v h ∙ r.reads v x a h)
-              (cases_lt s.version v);
-          bounded = subst Bounded (sym seals_up) sealed_bounded;
+              let last = last_read x in
+              let earlier = (seal_law s).earlier x v in
+              let before = r.reads v x a in
+              grind (arith, sealed_version);
+          bounded = rw (cond-true _ _ _ (lt-ltb s.version 268435455 open_below)) sealed_bounded;
         }

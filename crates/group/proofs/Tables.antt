@@ -1,8 +1,7 @@
 -- Lists with one element set or each one changed, and the slot of a handle.
 use Rattle.std.proofs.Common.{◌≡◌, ℕ, zero, suc, ◌≤◌, min, Bool, true, false, cond, eqb, ◌⊎◌, List, [], ◌∷◌, map, set, replicate, Some, None, Option, sym, refl, ap, ◌∙◌, inl, inr, arith}
 use Rattle.std.specs.List.{slice_get}
-use Rattle.std.proofs.lemmas.Bool.{eqb-true, and_parts}
-use Rattle.std.proofs.lemmas.Option.{cond_some}
+use Rattle.std.proofs.lemmas.Bool.Decides.{nat_tests}
 use Rattle.account.specs.declared.decisions.Decision.{Decision}
 use Rattle.site.specs.declared.handles.Handle.{Handle}
 use Rattle.site.specs.Handles.{a_handle}
@@ -36,45 +35,17 @@ module _ {X : Type 0} where
 
 -- The slot of a draft, and of a posted edit
 
-same_handle_by : (h : Handle) (i t : ℕ) → h.site ≡ i → t ≡ h.ticket → h ≡ a_handle i h.slot t
-same_handle_by h i t p q = ap (λ s. a_handle s h.slot h.ticket) p ∙ ap (a_handle i h.slot) (sym q)
-
-opened_by : (o : Option SlotModel) (t : ℕ) (e : EditModel) → held_open o t ≡ Some e → (o ≡ Some (opened e)) × (e.ticket ≡ t)
-opened_by (Some (opened x)) t e h =
-    let p = cond_some (eqb x.ticket t) x e h in
-    (ap (λ y. Some (opened y)) p.1, ap (λ y. y.ticket) (sym p.1) ∙ eqb-true x.ticket t p.0)
-opened_by _ t e h = cc
-
 -- A slot that holds the edit of a handle.
 pub record HoldsEdit (m : SiteModel) (h : Handle) (s : SlotModel) (t : ℕ) : Type 0 where
   pub there : slice_get m.slots h.slot ≡ Some s
   pub handle : h ≡ a_handle m.number h.slot t
 
 pub draft_slot : (m : SiteModel) (h : Handle) (e : EditModel) → drafted m h ≡ Some e → HoldsEdit m h (opened e) e.ticket
-draft_slot m h e d = by_site (eqb h.site m.number) refl d
-  where
-    by_site : (b : Bool) → eqb h.site m.number ≡ b → cond b (held_open (slice_get m.slots h.slot) h.ticket) None ≡ Some e →
-        HoldsEdit m h (opened e) e.ticket
-    by_site true q g =
-        let r = opened_by (slice_get m.slots h.slot) h.ticket e g in
-        record { there = r.0; handle = same_handle_by h m.number e.ticket (eqb-true _ _ q) r.1 }
-    by_site false q g = cc
-
-posted_by : (o : Option SlotModel) (t : ℕ) → held_posted o t ≡ true →
-    ((e : EditModel) × (o ≡ Some (posted e)) × (e.ticket ≡ t)) ⊎ ((u : ℕ) × (d : Decision) × (o ≡ Some (decided u d)) × (u ≡ t))
-posted_by (Some (posted x)) t h = inl (x, refl, eqb-true x.ticket t h)
-posted_by (Some (decided u d)) t h = inr (u, d, refl, eqb-true u t h)
-posted_by _ t h = cc
+draft_slot m h e d = grind (arith, nat_tests)
 
 pub awaited_slot : (m : SiteModel) (h : Handle) → awaited m h ≡ true →
     ((e : EditModel) × HoldsEdit m h (posted e) e.ticket) ⊎ ((u : ℕ) × (d : Decision) × HoldsEdit m h (decided u d) u)
-awaited_slot m h a =
-    let p = and_parts (eqb h.site m.number) _ a in
-    let s = eqb-true h.site m.number p.0 in
-    elim (posted_by (slice_get m.slots h.slot) h.ticket p.1) [
-      | inl x ↦ inl (x.0, record { there = x.1; handle = same_handle_by h m.number _ s x.2 })
-      | inr x ↦ inr (x.0, x.1, record { there = x.2; handle = same_handle_by h m.number _ s x.3 })
-    ]
+awaited_slot m h a = grind (arith, nat_tests)
 
 -- Versions that slots need: a bound below the snapshots of open and posted slots
 
@@ -85,18 +56,15 @@ NeedsFrom v _ = Unit {0}
 
 pub needed_from : (v : ℕ) (ss : List SlotModel) (k : ℕ) (s : SlotModel) → slice_get ss k ≡ Some s → NeedsFrom (least_needed v ss) s
 needed_from v [] k s e = cc
-needed_from v (empty ∷ ss) zero s e = let q : empty ≡ s = cc in rw (sym q) tt
-needed_from v (opened x ∷ ss) zero s e = let q : opened x ≡ s = cc in rw (sym q) (omega (arith, needed_within (min v x.snapshot) ss))
-needed_from v (posted x ∷ ss) zero s e = let q : posted x ≡ s = cc in rw (sym q) (omega (arith, needed_within (min v x.snapshot) ss))
-needed_from v (decided t d ∷ ss) zero s e = let q : decided t d ≡ s = cc in rw (sym q) tt
-needed_from v (empty ∷ ss) (suc k) s e = needed_from v ss k s e
+needed_from v (opened x ∷ ss) zero s e = let low = needed_within (min v x.snapshot) ss in grind arith
+needed_from v (posted x ∷ ss) zero s e = let low = needed_within (min v x.snapshot) ss in grind arith
+needed_from v (x ∷ ss) zero s e = grind arith
 needed_from v (opened x ∷ ss) (suc k) s e = needed_from (min v x.snapshot) ss k s e
 needed_from v (posted x ∷ ss) (suc k) s e = needed_from (min v x.snapshot) ss k s e
-needed_from v (decided t d ∷ ss) (suc k) s e = needed_from v ss k s e
+needed_from v (_ ∷ ss) (suc k) s e = needed_from v ss k s e
 
 pub needed_above : (low v : ℕ) (ss : List SlotModel) → low ≤ v → ((k : ℕ) (s : SlotModel) → slice_get ss k ≡ Some s → NeedsFrom low s) → low ≤ least_needed v ss
 needed_above low v [] h f = h
-needed_above low v (empty ∷ ss) h f = needed_above low v ss h (λ k. f (suc k))
 needed_above low v (opened x ∷ ss) h f = needed_above low (min v x.snapshot) ss (omega (arith, f 0 (opened x) refl)) (λ k. f (suc k))
 needed_above low v (posted x ∷ ss) h f = needed_above low (min v x.snapshot) ss (omega (arith, f 0 (posted x) refl)) (λ k. f (suc k))
-needed_above low v (decided t d ∷ ss) h f = needed_above low v ss h (λ k. f (suc k))
+needed_above low v (_ ∷ ss) h f = needed_above low v ss h (λ k. f (suc k))

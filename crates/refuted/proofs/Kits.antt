@@ -1,5 +1,5 @@
 -- Sites that are made of kits which pass the test are a fresh group.
-use Rattle.std.proofs.Common.{◌≡◌, ℕ, zero, suc, ◌+◌, true, eqb, leb, List, [], ◌∷◌, length, Some, sym, refl, subst, arith}
+use Rattle.std.proofs.Common.{◌≡◌, ℕ, zero, suc, ◌+◌, true, eqb, leb, List, [], ◌∷◌, length, Some, sym, refl, subst, zero-add, add-zero, suc-add, add-suc, arith}
 use Rattle.std.specs.List.{slice_get}
 use Rattle.std.proofs.lemmas.Bool.{and_parts}
 use Rattle.std.proofs.lemmas.Bool.Decides.{nat_tests}
@@ -30,12 +30,8 @@ fresh_from : (n : ℕ) → is_group n ≡ true → (ks : List Kit) (k i : ℕ) (
 fresh_from n g [] k i m e q = cc
 fresh_from n g (x ∷ xs) k zero m e q =
     let here : new_site k (fresh-store x.store) (kit_log n x) ≡ m = cc in
-    let same : 0 + k ≡ k = omega arith in
-    subst (λ (j : ℕ). Fresh n j m) (sym same)
-    (subst (λ (y : SiteModel). Fresh n k y) here (kit_fresh n k x g (and_parts (can_stand n k x) _ e).0))
-fresh_from n g (x ∷ xs) k (suc i) m e q =
-    let same : i + suc k ≡ suc i + k = omega arith in
-    subst (λ (j : ℕ). Fresh n j m) same (fresh_from n g xs (suc k) i m (and_parts (can_stand n k x) _ e).1 q)
+    rw (zero-add, ← here) (kit_fresh n k x g (and_parts (can_stand n k x) _ e).0)
+fresh_from n g (x ∷ xs) k (suc i) m e q = rw (suc-add, ← add-suc) (fresh_from n g xs (suc k) i m (and_parts (can_stand n k x) _ e).1 q)
 
 sites_length : (n k : ℕ) (ks : List Kit) → length (sites_from n k ks) ≡ length ks
 sites_length n k [] = refl
@@ -47,7 +43,5 @@ kits_fresh ks e =
     record {
       size = p.0;
       one_each = sites_length (length ks) 0 ks;
-      fresh = λ i m q.
-          let same : i + 0 ≡ i = omega arith in
-          subst (λ (j : ℕ). Fresh (length ks) j m) same (fresh_from (length ks) p.0 ks 0 i m p.1 q);
+      fresh = λ i m q. rw add-zero at (fresh_from (length ks) p.0 ks 0 i m p.1 q);
     }

@@ -31,11 +31,6 @@ pub record Ways : Type 0 where
   -- to which version pruning goes
   pub prunes_to : SiteModel → ℕ
 
-abbrev pub ways : (LogModel → ℕ → List Write → Decision) → (Mode → Bool) → (ℕ → List ℕ → Decision → SlotModel → SlotModel) → (StoreModel → StoreModel)
-    → (SiteModel → EditModel → ℕ) → (SiteModel → LogModel) → (SiteModel → ℕ) → Ways
-ways judges bars settles seals reads_at trims prunes_to =
-    record { judges = judges; bars = bars; settles = settles; seals = seals; reads_at = reads_at; trims = trims; prunes_to = prunes_to }
-
 -- What a log decides of a message, or of words that are none; whether it commits and is declined; and the log after it.
 abbrev pub decides : Ways → LogModel → Option MessageValue → Decision
 decides w l None = Void
@@ -86,14 +81,16 @@ acts_by w m Prune = unless (first (table m Prune)) m (Done, with_store m (pruned
 acts_by w m c = called m c
 
 -- What a site that acts by `called` does at these points.
-abbrev pub own_snapshot : SiteModel → EditModel → ℕ
-own_snapshot m e = e.snapshot
-
-abbrev pub own_trim : SiteModel → LogModel
-own_trim m = trimmed m.log (min (horizon m) m.store.version)
-
 abbrev pub right_ways : Ways
-right_ways = ways judged_by is_partial settled sealed_up own_snapshot own_trim keep
+right_ways = record {
+  judges = judged_by;
+  bars = is_partial;
+  settles = settled;
+  seals = sealed_up;
+  reads_at = λ m e. e.snapshot;
+  trims = λ m. trimmed m.log (min (horizon m) m.store.version);
+  prunes_to = keep;
+}
 
 -- With these the way to act is `called`.
 abbrev pub ActsRight : Type 0

@@ -1,4 +1,5 @@
-// That the law over runs is false of wrong ways to act, as contracts of functions that compute nothing.
+// That the law over runs is false of wrong ways to act, as contracts of functions that compute nothing: one function for each
+// way, so that each promise has a name of its own.
 ghost use Rattle.refuted.specs.Ways.{ActsRight};
 ghost use Rattle.refuted.specs.Wrong.{Refuted, by_floor, while_partial, counting_own_commit, all_in_conflict, made_up_version, trimming_to_last, dropping_one_more, sealing_nothing, reading_at_present, pruning_to_present, settling_by_any};
 
