@@ -7,20 +7,18 @@ use Rattle.words.specs.Pages.{page_words}
 use Rattle.account.specs.declared.decisions.Decision.{Decision}
 use Rattle.account.specs.Account.{Committed, commits_of}
 use Rattle.account.specs.Scenes.{scene}
-use Rattle.store.specs.StoreModel.{read_at}
 use Rattle.site.specs.declared.handles.Handle.{Handle}
-use Rattle.site.specs.Edits.{EditModel, own_change}
+use Rattle.site.specs.Edits.{EditModel}
 use Rattle.site.specs.Slots.{posted, decided, held_decision}
 use Rattle.site.specs.Certify.{certified}
 use Rattle.site.specs.CatchUp.{page_at}
 use Rattle.site.specs.SiteModel.{SiteModel}
-use Rattle.site.specs.Calls.{first, Call, Read, Look, Outcome, Deliver, Page, Value, Pending, Told, Wrote, drafted, edit_or, own_or, outcome_of, table, called}
-use Rattle.group.specs.Record.{Turn, a_turn, seals, last_write}
+use Rattle.site.specs.Calls.{first, Call, Read, Look, Outcome, Deliver, Page, Value, Pending, Told, Wrote, table, called}
+use Rattle.group.specs.Record.{Turn, a_turn, seals}
 use Rattle.group.specs.Law.{at_place, ReadsRight, DecidesRight, OutcomeRight, PendingRight, WritesRight, TurnRight}
 use Rattle.group.specs.Runs.{Supposed}
 use Rattle.group.proofs.LogSound.{log_writes}
 use Rattle.group.proofs.Tables.{draft_slot, awaited_slot}
-use Rattle.group.proofs.SlotsRight.{Live}
 use Rattle.group.proofs.Refusals.{passed, carried, the_draft}
 use Rattle.group.proofs.SiteSound.{whole_log, Sound}
 use Rattle.group.proofs.DraftCalls.{draft_right}

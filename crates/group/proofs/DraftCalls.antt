@@ -1,6 +1,6 @@
 -- Drafts and posted edits: begin, put, post, give up, outcome and let go leave a sound site.
-use Rattle.std.proofs.Common.{◌≡◌, ℕ, ◌+◌, ◌<◌, ◌≤◌, Bool, true, false, cond, eqb, List, ◌∷◌, length, set, is_some, Some, None, Option, sym, refl, ap, ◌∙◌, subst, arith}
-use Rattle.std.proofs.lemmas.Bool.{not-false, leb-false, eqb-false}
+use Rattle.std.proofs.Common.{◌≡◌, ℕ, ◌+◌, ◌<◌, ◌≤◌, Bool, true, false, cond, eqb, List, ◌∷◌, length, set, is_some, Some, None, Option, sym, refl, subst, arith}
+use Rattle.std.proofs.lemmas.Bool.{not-false, leb-false}
 use Rattle.std.proofs.lemmas.Bool.Decides.{nat_tests}
 use Rattle.logs.specs.LogModel.{ticketed}
 use Rattle.words.specs.declared.changes.Write.{Write}
@@ -19,7 +19,7 @@ use Rattle.group.proofs.Tables.{HoldsEdit, draft_slot}
 use Rattle.group.proofs.SlotsRight.{SlotRight, SlotsRight, slot_emptied}
 use Rattle.group.proofs.SlotDeeds.{slots_begun, slots_put, slots_posted}
 use Rattle.group.proofs.Refusals.{passed, the_draft}
-use Rattle.group.proofs.SiteSound.{Fits, SlotsBy, Sound, sound_slots, slots_quiet, sound_quiet}
+use Rattle.group.proofs.SiteSound.{Fits, Sound, sound_slots, slots_quiet, sound_quiet}
 
 module _ {ms : List (List ℕ)} {ts : List Turn} {m : SiteModel} (s : Sound ms ts m) where
   pub begin_kept : first (table m Begin) ≡ None → Sound ms (a_turn m.number Begin (answered m Begin) ∷ ts) (left m Begin)

@@ -1,14 +1,14 @@
 -- A call at one site, seen as a call of the group.
-use Rattle.std.proofs.Common.{◌≡◌, ℕ, ◌<◌, ◌≤◌, List, map, length, get_or, set, Some, None, sym, refl, ap, ◌∙◌, subst}
+use Rattle.std.proofs.Common.{◌≡◌, ℕ, ◌<◌, List, map, length, get_or, set, Some, sym, refl, ap, ◌∙◌, subst}
 use Rattle.std.specs.List.{slice_get}
-use Rattle.std.proofs.lemmas.List.{length-map, map-set}
+use Rattle.std.proofs.lemmas.List.{map-set}
 use Rattle.std.specs.Option.{option_map}
-use Rattle.std.proofs.lemmas.Option.{slice_get_past, slice_get_read, slice_get-map}
+use Rattle.std.proofs.lemmas.Option.{slice_get_read, slice_get-map}
 use Rattle.site.specs.SiteModel.{SiteModel}
 use Rattle.site.specs.Calls.{Call, Answer, called}
 use Rattle.group.specs.Record.{a_turn}
 use Rattle.group.specs.Runs.{GoesOn}
-use Rattle.group.specs.Groups.{called_in, called_at}
+use Rattle.group.specs.Groups.{called_at}
 use Rattle.group.proofs.RunLaw.{goes_on}
 
 module _ {C : Type 0} (model : C → SiteModel) (xs : List C) (i : ℕ) where

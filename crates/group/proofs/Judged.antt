@@ -1,13 +1,13 @@
 -- What a log decides is what the account decides, and an edit is rightly told.
-use Rattle.std.proofs.Common.{◌≡◌, ℕ, suc, ◌+◌, ◌-◌, ◌≤◌, max, Bool, true, false, ltb, List, ◌++◌, map, length, take, drop, Some, None, Option, sym, refl, ap, ◌∙◌, arith}
+use Rattle.std.proofs.Common.{◌≡◌, ℕ, suc, ◌+◌, ◌-◌, ◌≤◌, max, List, ◌++◌, map, length, take, drop, Some, None, Option, sym, refl, ap, ◌∙◌, arith}
 use lib.Seq.{drop-append-add}
 use Rattle.std.specs.List.{slice_get}
 use Rattle.std.proofs.lemmas.List.{length-append, length-map}
 use Rattle.std.proofs.lemmas.Bool.Decides.{nat_tests}
 use Rattle.words.specs.declared.changes.Write.{Write}
-use Rattle.words.specs.Messages.{MessageValue, an_edit, a_report, message_of}
+use Rattle.words.specs.Messages.{MessageValue, an_edit, message_of}
 use Rattle.account.specs.declared.decisions.Decision.{Decision}
-use Rattle.account.specs.Account.{Committed, an_account, lowest_clash, ruling, judged, decide, account_after, decisions}
+use Rattle.account.specs.Account.{Committed, an_account, lowest_clash, judged, decide, account_after, decisions}
 use Rattle.account.proofs.Steps.{before, decided_there}
 use Rattle.account.proofs.Clashes.{commits_clear, conflicts_lowest}
 use Rattle.logs.specs.LogModel.{LogModel, last_version, least}

@@ -1,16 +1,11 @@
 -- A call, declined or carried out, leaves a sound site of the same number in the same group.
-use Rattle.std.proofs.Common.{◌≡◌, ℕ, List, [], ◌∷◌, is_some, Some, None, Option, refl, arith}
+use Rattle.std.proofs.Common.{◌≡◌, ℕ, List, [], ◌∷◌, Some, None, Option, refl, arith}
 use Rattle.std.specs.List.{slice_get, All, Contains}
 use Rattle.std.proofs.lemmas.List.Elements.{All-nil, All-cons, All-contains}
-use Rattle.std.proofs.lemmas.Bool.{cond_both}
-use Rattle.account.specs.declared.decisions.Decision.{Decision}
-use Rattle.words.specs.declared.changes.Write.{Write}
 use Rattle.words.specs.Pages.{PageValue, page_of}
-use Rattle.logs.specs.LogModel.{entry_at, write_of}
-use Rattle.site.specs.declared.handles.Handle.{Handle}
 use Rattle.site.specs.Slots.{held_decision}
 use Rattle.site.specs.SiteModel.{SiteModel}
-use Rattle.site.specs.Calls.{first, Call, Begin, Put, Post, GiveUp, Outcome, LetGo, Deliver, Step, Page, Take, Trim, Prune, Crash, Wake, Answer, Declined, Wrote, drafted, awaited, after_outcome, after_page, is_behind, stepped_in, stepped, table, answered, left, by_table, called}
+use Rattle.site.specs.Calls.{first, Call, Begin, Put, Post, GiveUp, Outcome, LetGo, Deliver, Step, Page, Take, Trim, Prune, Crash, Wake, Declined, Wrote, after_page, table, answered, left, by_table, called}
 use Rattle.group.specs.Record.{Turn, a_turn}
 use Rattle.group.specs.Law.{WritesRight, RecordRight}
 use Rattle.group.specs.Runs.{Supposed}

@@ -1,5 +1,5 @@
 -- Known numbers: those of a log beside those of the account.
-use Rattle.std.proofs.Common.{◌≡◌, ℕ, zero, suc, ◌<◌, ◌≤◌, min, max, true, eqb, leb, List, [], ◌∷◌, length, set, replicate, Some, None, Option, refl, ap, arith}
+use Rattle.std.proofs.Common.{◌≡◌, ℕ, zero, suc, ◌<◌, ◌≤◌, min, max, true, leb, List, [], ◌∷◌, length, set, replicate, Some, None, Option, refl, ap, arith}
 use Rattle.std.specs.List.{slice_get}
 use Rattle.std.proofs.lemmas.Option.{slice_get-get_or}
 use Rattle.std.proofs.lemmas.Bool.{and_parts, leb-true}
@@ -9,7 +9,7 @@ use Rattle.words.specs.Messages.{MessageValue, an_edit, a_report}
 use Rattle.account.specs.Account.{Account, raise, heard, last_version, least as account-least}
 use Rattle.account.proofs.Horizons.{AllUpTo}
 use Rattle.account.proofs.KnownNumbers.{raise_set}
-use Rattle.logs.specs.LogModel.{limit, least, all_within}
+use Rattle.logs.specs.LogModel.{least, all_within}
 use Rattle.site.specs.Certify.{number_or_zero}
 use Rattle.site.specs.CatchUp.{covers}
 use Rattle.site.specs.Making.{is_zero}

@@ -1,5 +1,5 @@
 -- Deliveries, pages, trims, prunes, crashes and wakings leave a sound site.
-use Rattle.std.proofs.Common.{◌≡◌, ℕ, ◌+◌, ◌≤◌, min, Bool, true, false, ltb, List, ◌∷◌, map, Some, None, sym, refl, ap, ◌∙◌, subst, arith}
+use Rattle.std.proofs.Common.{◌≡◌, ℕ, ◌+◌, ◌≤◌, min, true, List, ◌∷◌, map, Some, None, sym, refl, ap, ◌∙◌, subst, arith}
 use Rattle.std.proofs.lemmas.Bool.{not-false}
 use Rattle.std.proofs.lemmas.Bool.Decides.{nat_tests}
 use Rattle.words.specs.Messages.{message_of}
@@ -14,14 +14,14 @@ use Rattle.site.specs.Slots.{settled}
 use Rattle.site.specs.Certify.{certified, log_after}
 use Rattle.site.specs.CatchUp.{follows, has_room_for, log_taken, mode_taken, fails}
 use Rattle.site.specs.SiteModel.{SiteModel, keep, horizon}
-use Rattle.site.specs.Calls.{first, Deliver, Take, Trim, Prune, Crash, Wake, Done, Told, after_page, marked, table, answered, left}
+use Rattle.site.specs.Calls.{first, Deliver, Take, Trim, Prune, Crash, Wake, Done, Told, marked, table, answered, left}
 use Rattle.site.proofs.SlotLaws.{needed_within}
 use Rattle.group.specs.Record.{Turn, a_turn}
 use Rattle.group.specs.Law.{at_place, DecidesRight, WritesRight}
 use Rattle.group.proofs.LogForms.{after_on, after_whole, taken_on, closes, closed_is}
 use Rattle.group.proofs.LogSound.{log_decides, log_delivers, log_trims, log_takes}
 use Rattle.group.proofs.Tables.{needed_from, needed_above}
-use Rattle.group.proofs.SlotsRight.{SlotsRight, slots_emptied, slots_need, slots_from}
+use Rattle.group.proofs.SlotsRight.{slots_emptied, slots_need, slots_from}
 use Rattle.group.proofs.SlotDeeds.{slots_settled}
 use Rattle.group.proofs.StoreRight.{store_pruned, change_pruned, store_dropped}
 use Rattle.group.proofs.Refusals.{passed}

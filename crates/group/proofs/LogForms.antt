@@ -1,14 +1,11 @@
 -- What each function of a log leaves where it is carried out, and what it does not change.
-use Rattle.std.proofs.Common.{◌≡◌, ℕ, ◌+◌, ◌<◌, ◌≤◌, true, ltb, leb, List, [], ◌∷◌, ◌++◌, length, set, replicate, Some, Option, sym, ap, ◌∙◌, arith}
-use Rattle.std.proofs.lemmas.Bool.{and_parts, lt-ltb, cond-true}
+use Rattle.std.proofs.Common.{◌≡◌, ℕ, ◌+◌, ◌<◌, ◌≤◌, true, leb, List, [], ◌∷◌, ◌++◌, length, set, replicate, Some, Option, ap, ◌∙◌, arith}
 use Rattle.std.proofs.lemmas.Bool.Decides.{nat_tests}
 use Rattle.words.specs.Bits.{every}
 use Rattle.words.specs.Messages.{MessageValue}
 use Rattle.words.specs.Pages.{PageValue, a_closing, page_of}
 use Rattle.words.proofs.PageSpelling.{page_spelling}
-use Rattle.logs.specs.LogModel.{Entry, LogModel, Marks, limit, a_log, a_mark, held, marks, with_entries, last_version, can_append, appended, can_commit, committed, can_copy, copied, passed, noted, closed, mark_cleared, mark_passed, all_within}
-use Rattle.logs.proofs.Holding.{append_taken}
-use Rattle.logs.proofs.Numbers.{noted_is as mark-noted-is, closed_is as mark-closed-is}
+use Rattle.logs.specs.LogModel.{Entry, LogModel, Marks, a_log, a_mark, held, marks, with_entries, last_version, can_commit, committed, can_copy, copied, passed, noted, closed, mark_cleared, all_within}
 use Rattle.site.specs.Making.{is_zero, is_fresh_log}
 use Rattle.std.proofs.lemmas.List.{length_push}
 use Rattle.site.specs.Certify.{log_after}

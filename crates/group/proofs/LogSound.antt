@@ -1,10 +1,10 @@
 -- A log agrees with the account of the whole list, and whatever is done to it keeps that so.
-use Rattle.std.proofs.Common.{◌≡◌, ℕ, zero, suc, ◌+◌, ◌-◌, ◌<◌, ◌≤◌, min, max, true, false, not, ◌&&◌, eqb, ltb, leb, List, [], ◌∷◌, ◌++◌, map, length, take, drop, set, Some, None, Option, sym, refl, ap, ◌∙◌, subst, add-one, arith}
+use Rattle.std.proofs.Common.{◌≡◌, ℕ, zero, suc, ◌+◌, ◌-◌, ◌<◌, ◌≤◌, min, max, true, false, not, ◌&&◌, ltb, List, [], ◌∷◌, ◌++◌, map, length, take, drop, set, Some, None, Option, sym, refl, ap, ◌∙◌, add-one, arith}
 use Rattle.std.specs.List.{slice_get}
 use Rattle.std.specs.Option.{option_map}
 use Rattle.std.proofs.lemmas.Option.{slice_get-map}
 use Rattle.std.proofs.lemmas.List.{append_assoc, append-nil, map-append, map_push, take-append-drop, take_at, length-append, length-map, length_push, length-take, length-drop, nil_from_length}
-use Rattle.std.proofs.lemmas.Bool.{and_parts, not-false, eqb-true, cond_both, false≢true}
+use Rattle.std.proofs.lemmas.Bool.{and_parts, not-false, eqb-true, false≢true}
 use Rattle.std.proofs.lemmas.Bool.Decides.{nat_tests}
 use Rattle.words.specs.declared.changes.Write.{Write}
 use Rattle.words.specs.Bits.{is_group}
@@ -12,11 +12,11 @@ use Rattle.words.specs.Messages.{MessageValue, an_edit, a_report, message_of}
 use Rattle.words.specs.Pages.{PageValue, an_entry, a_closing, page_words, page_of}
 use Rattle.words.proofs.MessageSpelling.{message_spelling}
 use Rattle.account.specs.declared.decisions.Decision.{Decision}
-use Rattle.account.specs.declared.decisions.Decision.TheVariants.{Void, Noted, Ahead, TooOld, Conflict, Commit}
+use Rattle.account.specs.declared.decisions.Decision.TheVariants.{Commit}
 use Rattle.account.specs.Account.{Account, Committed, an_account, raise, decide, added, heard, account_after, commits_of, commit_of}
 use Rattle.account.proofs.Entries.{report_own}
 use Rattle.account.proofs.Horizons.{horizon_next, known_up_to_last}
-use Rattle.logs.specs.LogModel.{Entry, LogModel, Marks, an_entry as entry_of, limit, a_log, a_mark, held, marks, entry_at, least, last_version, can_append, can_commit, passed, ticketed, trimmed}
+use Rattle.logs.specs.LogModel.{Entry, LogModel, Marks, an_entry as entry_of, limit, a_log, a_mark, held, entry_at, least, last_version, can_append, can_commit, passed, ticketed, trimmed}
 use Rattle.logs.proofs.Holding.{entry_above, append_parts}
 use Rattle.logs.proofs.Entries.{above_floor, below_last}
 use Rattle.site.specs.SiteModel.{SiteModel}

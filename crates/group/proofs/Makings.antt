@@ -1,16 +1,14 @@
 -- The sites that a group is made of: what is tested of them, and that a run begins with them.
-use Rattle.std.proofs.Common.{◌≡◌, ℕ, zero, suc, ◌+◌, ◌<◌, ◌≤◌, true, not, ◌&&◌, List, [], ◌∷◌, map, length, replicate, is_some, Some, None, Option, sym, refl, ap, ◌∙◌, subst, add-one, zero-add, add-zero, suc-add, add-suc, arith}
+use Rattle.std.proofs.Common.{◌≡◌, ℕ, zero, suc, ◌+◌, ◌<◌, ◌≤◌, true, ◌&&◌, List, [], ◌∷◌, map, length, replicate, Some, None, sym, refl, ap, ◌∙◌, add-one, zero-add, add-zero, suc-add, add-suc, arith}
 use Rattle.std.specs.List.{slice_get, list_all, range_with_len, zip}
 use Rattle.std.proofs.lemmas.List.{length-map}
 use Rattle.std.proofs.lemmas.Bool.{and_parts}
 use Rattle.std.proofs.lemmas.Bool.Decides.{nat_tests}
 use Rattle.words.specs.Bits.{is_group}
-use Rattle.site.specs.declared.modes.Mode.{Mode}
 use Rattle.site.specs.declared.modes.Mode.TheVariants.{Whole}
 use Rattle.site.specs.Slots.{SlotModel, empty, is_empty, all_empty}
 use Rattle.site.specs.SiteModel.{SiteModel, a_site}
 use Rattle.site.specs.Making.{new_site}
-use Rattle.site.specs.Calls.{is_whole}
 use Rattle.site.specs.Spoken.{is_new, Bounded}
 use Rattle.group.specs.Runs.{Fresh, starts}
 use Rattle.group.specs.Groups.{new_from, are_new, Starts}

@@ -1,11 +1,10 @@
 -- Pages of the account: those that say what it holds are read back.
-use Rattle.std.proofs.Common.{◌≡◌, ℕ, zero, suc, ◌≤◌, true, List, length, take, Some, refl, arith}
+use Rattle.std.proofs.Common.{◌≡◌, ℕ, zero, suc, ◌≤◌, true, List, length, take, refl, arith}
 use Rattle.std.proofs.lemmas.Bool.Decides.{nat_tests}
-use Rattle.words.specs.declared.changes.Write.{Write}
 use Rattle.words.specs.Bits.{is_group}
 use Rattle.words.specs.Pages.{PageValue, an_entry, a_closing, page_words, valid_page}
 use Rattle.words.proofs.PageSpelling.{page_spelling}
-use Rattle.account.specs.Account.{a_commit, account_after, commits_of, commit_of, last_version}
+use Rattle.account.specs.Account.{a_commit, account_after, last_version}
 use Rattle.account.proofs.Horizons.{known_up_to_last}
 use Rattle.group.specs.Law.{PageRight, WritesRight}
 use Rattle.group.proofs.Accounts.{last_within, commit_well_made}

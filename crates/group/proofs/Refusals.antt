@@ -1,15 +1,13 @@
 -- What a call that is carried out was not refused for, and that its deed is of its own site.
-use Rattle.std.proofs.Common.{◌≡◌, ℕ, Bool, true, false, cond, not, eqb, List, [], ◌∷◌, length, is_some, Some, None, Option, sym, refl, ap, ◌∙◌, subst, arith}
+use Rattle.std.proofs.Common.{◌≡◌, ℕ, Bool, false, cond, not, eqb, List, [], ◌∷◌, is_some, Some, None, Option, sym, refl, ap, ◌∙◌, arith}
 use Rattle.std.specs.List.{slice_get}
 use Rattle.std.proofs.lemmas.Bool.Decides.{nat_tests}
 use Rattle.account.specs.declared.decisions.Decision.{Decision}
-use Rattle.words.specs.declared.changes.Write.{Write}
-use Rattle.logs.specs.LogModel.{entry_at, write_of}
 use Rattle.site.specs.declared.handles.Handle.{Handle}
 use Rattle.site.specs.Edits.{EditModel}
 use Rattle.site.specs.Slots.{held_decision}
 use Rattle.site.specs.SiteModel.{SiteModel}
-use Rattle.site.specs.Calls.{Line, first, Call, Begin, Put, Post, Outcome, Step, Answer, Declined, ReadOnly, drafted, edit_or, sent, outcome_of, is_behind, stepped_in, stepped, table, answered, by_table, called}
+use Rattle.site.specs.Calls.{Line, first, Call, Begin, Put, Post, Outcome, Step, Answer, Declined, drafted, edit_or, sent, outcome_of, stepped, table, answered, by_table, called}
 use Rattle.group.specs.Record.{deed_of}
 use Rattle.group.proofs.Turns.{OfSite}
 use Rattle.group.proofs.Tables.{draft_slot}

@@ -12,7 +12,7 @@ use Rattle.site.specs.SiteModel.{SiteModel}
 use Rattle.site.specs.Making.{can_make, new_site}
 use Rattle.site.specs.Calls.{Call, called}
 use Rattle.group.specs.Record.{Turn, a_turn, deed}
-use Rattle.group.specs.Law.{TurnRight, RecordRight, LogRight}
+use Rattle.group.specs.Law.{TurnRight, RecordRight}
 use Rattle.group.specs.Runs.{Fresh, Supposed, Run, starts, goes, RunLaw, GoesOn}
 use Rattle.group.proofs.LogSound.{log_starts, log_has}
 use Rattle.group.proofs.Turns.{OfSite}

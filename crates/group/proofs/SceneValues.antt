@@ -1,9 +1,8 @@
 -- Scenes one commit on, by values alone.
-use Rattle.std.proofs.Common.{◌≡◌, ℕ, zero, suc, Bool, true, false, cond, eqb, List, [], ◌∷◌, take, ℤ, Some, None, Option, refl, ap, ◌∙◌, arith}
+use Rattle.std.proofs.Common.{◌≡◌, ℕ, zero, suc, Bool, cond, eqb, List, [], ◌∷◌, take, ℤ, Some, None, Option, refl, ap, ◌∙◌, arith}
 use Rattle.std.specs.Option.{option_map}
 use Rattle.std.specs.List.{slice_get}
 use Rattle.words.specs.declared.changes.Change.{Change}
-use Rattle.words.specs.declared.changes.Change.TheVariants.{Set, Remove}
 use Rattle.words.specs.declared.changes.Write.{Write}
 use Rattle.account.specs.declared.scenes.Placed.{Placed}
 use Rattle.account.specs.Account.{Committed}

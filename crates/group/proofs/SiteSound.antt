@@ -1,5 +1,5 @@
 -- What holds of a site throughout a run, by the record so far, and how its parts may change.
-use Rattle.std.proofs.Common.{◌≡◌, ℕ, ◌<◌, ◌≤◌, Bool, true, false, List, ◌∷◌, Option, sym, ◌∙◌, subst, arith}
+use Rattle.std.proofs.Common.{◌≡◌, ℕ, ◌<◌, ◌≤◌, Bool, true, false, List, ◌∷◌, Option, ◌∙◌, arith}
 use Rattle.std.proofs.lemmas.Bool.Decides.{nat_tests}
 use Rattle.words.specs.Bits.{is_group}
 use Rattle.account.specs.Account.{commits_of}
@@ -11,7 +11,7 @@ use Rattle.site.specs.declared.modes.Mode.TheVariants.{Whole, Partial, Down}
 use Rattle.site.specs.Slots.{SlotModel}
 use Rattle.site.specs.SiteModel.{SiteModel, with_store, with_log, with_mode, with_slots, with_change}
 use Rattle.site.specs.Calls.{Call, Answer, is_down, is_partial}
-use Rattle.group.specs.Record.{Turn, a_turn, nothing, deed, deed_of, seals, posted_as}
+use Rattle.group.specs.Record.{Turn, a_turn, nothing, deed, deed_of, seals}
 use Rattle.group.proofs.LogSound.{LogSound}
 use Rattle.group.proofs.Turns.{Same, OfSite, same_elsewhere}
 use Rattle.group.proofs.SlotsRight.{SlotsRight, slots_on}

@@ -1,13 +1,13 @@
 -- The turns that say something of a handle: a draft begins, writes or is posted, and words are delivered.
-use Rattle.std.proofs.Common.{◌≡◌, ℕ, ◌+◌, ◌<◌, ◌≤◌, Bool, true, false, cond, ◌&&◌, eqb, List, [], ◌∷◌, map, length, set, Some, None, Option, sym, refl, ap, ◌∙◌, arith}
+use Rattle.std.proofs.Common.{◌≡◌, ℕ, ◌+◌, ◌<◌, ◌≤◌, Bool, true, false, cond, eqb, List, [], ◌∷◌, map, length, set, Some, sym, refl, ap, ◌∙◌, arith}
 use Rattle.std.specs.Str.{bytes_eq}
 use Rattle.std.proofs.lemmas.Slice.Eq.{bytes_eq-Decides}
-use Rattle.std.proofs.lemmas.Bool.{eq-eqb, ne_eqb, leb-true, cond-true, cond-false}
+use Rattle.std.proofs.lemmas.Bool.{ne_eqb, cond-false}
 use Rattle.std.proofs.lemmas.Bool.Decides.{nat_tests}
 use Rattle.words.specs.declared.changes.Write.{Write}
 use Rattle.words.specs.Bits.{is_group}
 use Rattle.words.specs.Writes.{write_fits}
-use Rattle.words.specs.Messages.{an_edit, message_of, or_else}
+use Rattle.words.specs.Messages.{an_edit, message_of}
 use Rattle.words.proofs.MessageSpelling.{message_spelling}
 use Rattle.account.specs.declared.decisions.Decision.{Decision}
 use Rattle.account.specs.Account.{Committed}
@@ -19,7 +19,7 @@ use Rattle.site.specs.Slots.{SlotModel, empty, opened, posted, decided, settled}
 use Rattle.site.specs.Calls.{Begin, Put, Post, Deliver, Drafted, Done, Sent, Told}
 use Rattle.site.proofs.EditWrites.{fit_with}
 use Rattle.site.proofs.Spelt.{valid_edit}
-use Rattle.group.specs.Record.{Turn, a_turn, decided as decides, last_write, posted_as, tells_of, first_told}
+use Rattle.group.specs.Record.{Turn, a_turn}
 use Rattle.group.specs.Law.{ToldRight}
 use Rattle.group.proofs.Tables.{map_each}
 use Rattle.group.proofs.SlotsRight.{Live, SlotRight, SlotsRight, slots_about}

@@ -1,5 +1,5 @@
 -- Steps: a version is opened, its writes are staged one by one, and it is sealed; each leaves a sound site.
-use Rattle.std.proofs.Common.{◌≡◌, ℕ, suc, ◌+◌, ◌<◌, ◌≤◌, Bool, true, false, cond, not, ◌&&◌, ltb, List, [], ◌∷◌, length, is_some, Some, None, Option, sym, refl, ap, ◌∙◌, subst, add-one, arith}
+use Rattle.std.proofs.Common.{◌≡◌, ℕ, ◌+◌, ◌<◌, ◌≤◌, Bool, true, false, cond, List, [], ◌∷◌, length, Some, None, Option, sym, refl, ap, ◌∙◌, subst, add-one, arith}
 use Rattle.std.specs.List.{slice_get}
 use Rattle.std.proofs.lemmas.Bool.Decides.{nat_tests}
 use Rattle.words.specs.declared.changes.Write.{Write}
@@ -12,7 +12,7 @@ use Rattle.site.specs.SiteModel.{SiteModel, with_change}
 use Rattle.site.specs.Calls.{first, Step, Answer, Opened, Staged, Sealed, Idle, writes_in, is_behind, lacks_space, upcoming, stepped_in, stepped, table, answered, left}
 use Rattle.group.specs.Record.{Turn, a_turn}
 use Rattle.group.proofs.LogSound.{log_has}
-use Rattle.group.proofs.SlotsRight.{SlotsRight, slots_on}
+use Rattle.group.proofs.SlotsRight.{slots_on}
 use Rattle.group.proofs.StoreRight.{UnderWay, ChangeRight, change_opened, store_staged, change_staged, staged_version, sealed_version, sealed_staged, store_sealed}
 use Rattle.group.proofs.Refusals.{passed}
 use Rattle.group.proofs.SiteSound.{Sound, sound_store, slots_quiet, sound_quiet}

@@ -1,12 +1,12 @@
 -- Lists with one element set or each one changed, and the slot of a handle.
-use Rattle.std.proofs.Common.{◌≡◌, ℕ, zero, suc, ◌≤◌, min, Bool, true, false, cond, eqb, ◌⊎◌, List, [], ◌∷◌, map, set, replicate, Some, None, Option, sym, refl, ap, ◌∙◌, inl, inr, arith}
+use Rattle.std.proofs.Common.{◌≡◌, ℕ, zero, suc, ◌≤◌, min, true, ◌⊎◌, List, [], ◌∷◌, map, set, replicate, Some, sym, refl, arith}
 use Rattle.std.specs.List.{slice_get}
 use Rattle.std.proofs.lemmas.Bool.Decides.{nat_tests}
 use Rattle.account.specs.declared.decisions.Decision.{Decision}
 use Rattle.site.specs.declared.handles.Handle.{Handle}
 use Rattle.site.specs.Handles.{a_handle}
 use Rattle.site.specs.Edits.{EditModel}
-use Rattle.site.specs.Slots.{SlotModel, empty, opened, posted, decided, held_open, held_posted, least_needed}
+use Rattle.site.specs.Slots.{SlotModel, opened, posted, decided, least_needed}
 use Rattle.site.specs.SiteModel.{SiteModel}
 use Rattle.site.specs.Calls.{drafted, awaited}
 use Rattle.site.proofs.SlotLaws.{needed_within}

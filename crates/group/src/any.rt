@@ -55,7 +55,12 @@ impl Calls for AnySite {
         }
     }
 
-    fn call(&mut self, request: Request, words: &[u32], out: &mut [u32]) -> Result<Response, Refusal> {
+    fn call(
+        &mut self,
+        request: Request,
+        words: &[u32],
+        out: &mut [u32],
+    ) -> Result<Response, Refusal> {
         match self {
             AnySite::JournalFlat(site) => site.call(request, words, out),
             AnySite::JournalPacked(site) => site.call(request, words, out),
