@@ -1,5 +1,5 @@
 -- Wrong decisions: a place is told otherwise than the account of the whole list decides it.
-use Rattle.std.proofs.Common.{◌≡◌, ℕ, List, [], ◌∷◌, refl, arith}
+use Rattle.std.proofs.Common.{ℕ, List, [], ◌∷◌, refl}
 use Rattle.words.specs.Pages.{an_entry, page_words}
 use Rattle.account.specs.declared.decisions.Decision.TheVariants.{Conflict, Commit}
 use Rattle.site.specs.Calls.{Deliver, Page, Take, Trim}

@@ -1,13 +1,12 @@
 -- Sites that are made of kits which pass the test are a fresh group.
-use Rattle.std.proofs.Common.{◌≡◌, ℕ, zero, suc, ◌+◌, true, eqb, leb, List, [], ◌∷◌, length, Some, sym, refl, subst, zero-add, add-zero, suc-add, add-suc, arith}
+use Rattle.std.proofs.Common.{◌≡◌, ℕ, zero, suc, ◌+◌, true, List, [], ◌∷◌, length, Some, refl, zero-add, add-zero, suc-add, add-suc, arith}
 use Rattle.std.specs.List.{slice_get}
 use Rattle.std.proofs.lemmas.Bool.{and_parts}
 use Rattle.std.proofs.lemmas.Bool.Decides.{nat_tests}
 use Rattle.words.specs.Bits.{is_group}
 use Rattle.store.specs.StoreModel.{fresh as fresh-store}
-use Rattle.logs.specs.LogModel.{limit, all_within}
 use Rattle.site.specs.SiteModel.{SiteModel}
-use Rattle.site.specs.Making.{can_make, new_site}
+use Rattle.site.specs.Making.{new_site}
 use Rattle.group.specs.Runs.{Fresh, FreshGroup}
 use Rattle.refuted.specs.Plays.{Kit, kit_log, sites_from, can_stand, can_stand_from, are_kits, opening}
 

@@ -1,11 +1,11 @@
 -- A play whose turns pass the test of what is supposed is a run.
 use Rattle.std.proofs.Common.{◌≡◌, ℕ, true, List, [], ◌∷◌, length, Some, None, Option, sym, refl, ap, ◌∙◌, ⊎_elim, arith}
 use Rattle.std.specs.List.{slice_get, Contains}
-use Rattle.std.proofs.lemmas.Bool.{and_parts, or_cases, false≢true}
+use Rattle.std.proofs.lemmas.Bool.{and_parts, or_cases}
 use Rattle.std.proofs.lemmas.Slice.Eq.{bytes_eq-Decides}
 use Rattle.std.proofs.lemmas.List.Elements.{Contains-append_right}
 use Rattle.site.specs.SiteModel.{SiteModel}
-use Rattle.site.specs.Calls.{Call, Begin, Read, Look, Put, Post, GiveUp, Outcome, LetGo, Deliver, Step, Report, Page, Take, Trim, Prune, Crash, Wake, Answer, Declined, Drafted, Value, Done, ReadOnly, Sent, Pending, Told, Opened, Staged, Sealed, Idle, Wrote, Woken}
+use Rattle.site.specs.Calls.{Call, Page, Answer, Wrote}
 use Rattle.group.specs.Record.{Turn, a_turn}
 use Rattle.group.specs.Law.{at_place}
 use Rattle.group.specs.Runs.{Acting, Supposed, Run, starts, goes}

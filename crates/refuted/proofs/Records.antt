@@ -4,7 +4,6 @@ use Rattle.std.specs.Option.{option_map}
 use Rattle.words.specs.declared.changes.Change.TheVariants.{Set}
 use Rattle.words.specs.Writes.{a_write}
 use Rattle.account.specs.declared.decisions.Decision.TheVariants.{Commit}
-use Rattle.account.specs.Account.{Committed}
 use Rattle.site.specs.Calls.{Begin, Put, Post, Outcome, Deliver, Trim}
 use Rattle.refuted.specs.Wrong.{Refuted, settling_by_any, dropping_one_more}
 use Rattle.refuted.specs.Plays.{Move, at}

@@ -1,5 +1,5 @@
 -- Wrong values: a read that is not of its snapshot, a look that is not of the versions sealed.
-use Rattle.std.proofs.Common.{◌≡◌, ℕ, List, [], ◌∷◌, pos, Some, None, refl, arith}
+use Rattle.std.proofs.Common.{ℕ, List, [], ◌∷◌, pos, Some, None, refl}
 use Rattle.site.specs.Calls.{Begin, Read, Look, Deliver, Step, Prune}
 use Rattle.refuted.specs.Wrong.{Refuted, sealing_nothing, reading_at_present, pruning_to_present}
 use Rattle.refuted.specs.Plays.{Move, at}
