@@ -8,9 +8,8 @@ use Rattle.script.specs.declared.asks.LogKind.{LogKind}
 use Rattle.script.specs.declared.asks.LogKind.TheVariants.{Flat, Packed}
 use Rattle.script.specs.declared.faults.Fault.{Fault}
 use Rattle.script.specs.declared.faults.Fault.TheVariants.{NoCall, NoVerb, NoStore, NoLog}
-use Rattle.script.specs.declared.verbs.Verb.{Verb}
 use Rattle.script.specs.Values.{AskValue, Group, Site, Send, At, then, told}
-use Rattle.script.specs.Verbs.{verb_of}
+use Rattle.script.specs.Verbs.{named_first, verbs}
 use Rattle.script.specs.Parts.{end_in, number_first, source_in}
 use Rattle.script.specs.Deeds.{number_in, deed_in}
 
@@ -18,13 +17,18 @@ use Rattle.script.specs.Deeds.{number_in, deed_in}
 abbrev pub group_in : List (List ℕ) → Result AskValue Fault
 group_in ws = told Group (number_in ws)
 
+-- The stores and the logs, each under its name.
+abbrev pub stores : List (List ℕ × StoreKind)
+stores = (codes "journal", Journal) ∷ (codes "chains", Chains) ∷ []
+
 abbrev pub store_first : List (List ℕ) → Result (StoreKind × List (List ℕ)) Fault
-store_first [] = Err NoStore
-store_first (w ∷ ws) = cond (bytes_eq w (codes "journal")) (Ok (Journal, ws)) (cond (bytes_eq w (codes "chains")) (Ok (Chains, ws)) (Err NoStore))
+store_first ws = named_first stores NoStore ws
+
+abbrev pub logs : List (List ℕ × LogKind)
+logs = (codes "flat", Flat) ∷ (codes "packed", Packed) ∷ []
 
 abbrev pub log_first : List (List ℕ) → Result (LogKind × List (List ℕ)) Fault
-log_first [] = Err NoLog
-log_first (w ∷ ws) = cond (bytes_eq w (codes "flat")) (Ok (Flat, ws)) (cond (bytes_eq w (codes "packed")) (Ok (Packed, ws)) (Err NoLog))
+log_first ws = named_first logs NoLog ws
 
 -- `site I STORE RECORDS LOG ROOM`
 abbrev pub site_in : List (List ℕ) → Result AskValue Fault
@@ -37,13 +41,8 @@ abbrev pub send_in : List (List ℕ) → Result AskValue Fault
 send_in ws = told Send (source_in ws)
 
 -- A call at site I.
-abbrev pub call_in : ℕ → Option Verb → List (List ℕ) → Result AskValue Fault
-call_in i None ws = Err NoVerb
-call_in i (Some v) ws = told (At i) (deed_in v ws)
-
 abbrev pub at_in : ℕ → List (List ℕ) → Result AskValue Fault
-at_in i [] = Err NoVerb
-at_in i (w ∷ ws) = call_in i (verb_of w) ws
+at_in i ws = then (named_first verbs NoVerb ws) (λ v. told (At i) (deed_in v.0 v.1))
 
 abbrev pub at_site : Option ℕ → List (List ℕ) → Result AskValue Fault
 at_site None ws = Err NoCall

@@ -1,7 +1,8 @@
 -- The names of the calls at a site.
-use Rattle.std.specs.Prelude.{ℕ, cond, List, [], ◌∷◌, map, Some, None, codes, Option}
+use Rattle.std.specs.Prelude.{ℕ, cond, List, [], ◌∷◌, map, Some, None, Ok, Err, codes, Option, Result}
 use Rattle.std.specs.Borrow.{Bor}
 use Rattle.std.specs.Str.{bytes_eq}
+use Rattle.script.specs.declared.faults.Fault.{Fault}
 use Rattle.script.specs.declared.verbs.Verb.{Verb}
 use Rattle.script.specs.declared.verbs.Verb.TheVariants.{Begin, Read, Look, Write, Post, GiveUp, LetGo, Outcome, Deliver, Step, Report, Page, Take, Trim, Prune, Crash, Wake, Show}
 
@@ -9,6 +10,15 @@ use Rattle.script.specs.declared.verbs.Verb.TheVariants.{Begin, Read, Look, Writ
 abbrev pub named : {A : Type 0} → List (List ℕ × A) → List ℕ → Option A
 named [] w = None
 named (row ∷ rows) w = cond (bytes_eq w row.0) (Some row.1) (named rows w)
+
+-- What the first word names, and the words after it.
+abbrev pub named_then : {A : Type 0} → Option A → Fault → List (List ℕ) → Result (A × List (List ℕ)) Fault
+named_then None missing ws = Err missing
+named_then (Some a) missing ws = Ok (a, ws)
+
+abbrev pub named_first : {A : Type 0} → List (List ℕ × A) → Fault → List (List ℕ) → Result (A × List (List ℕ)) Fault
+named_first rows missing [] = Err missing
+named_first rows missing (w ∷ ws) = named_then (named rows w) missing ws
 
 -- The rows of a table, by their bytes.
 abbrev pub row_values : {A : Type 0} → List (Bor (List ℕ) × A) → List (List ℕ × A)
@@ -36,7 +46,3 @@ verbs =
     (codes "wake", Wake) ∷
     (codes "show", Show) ∷
     []
-
--- The call that a word names.
-abbrev pub verb_of : List ℕ → Option Verb
-verb_of w = named verbs w

@@ -9,7 +9,7 @@ use crate::asks::{Ask, LogKind, StoreKind};
 use crate::deeds::parse_deed;
 use crate::faults::Fault;
 use crate::parts::{parse_number, parse_only, parse_source};
-use crate::verbs::{find_named, parse_verb};
+use crate::verbs::{parse_named, parse_verb};
 use text::names::same;
 use text::numbers::decimal;
 use text::split::next_word;
@@ -28,18 +28,14 @@ fn parse_store<'a>(text: &'a [u8]) -> Result<(StoreKind, &'a [u8]), Fault>
         (b"journal", StoreKind::Journal),
         (b"chains", StoreKind::Chains),
     ];
-    let (word, rest) = next_word(text);
-    let store = find_named(&table, word).ok_or(Fault::NoStore)?;
-    Ok((store, rest))
+    parse_named(&table, Fault::NoStore, text)
 }
 
 fn parse_log<'a>(text: &'a [u8]) -> Result<(LogKind, &'a [u8]), Fault>
     ensures { told at_rest result ≡ log_first (words text.now) }
 {
     let table: [(&[u8], LogKind); 2] = [(b"flat", LogKind::Flat), (b"packed", LogKind::Packed)];
-    let (word, rest) = next_word(text);
-    let log = find_named(&table, word).ok_or(Fault::NoLog)?;
-    Ok((log, rest))
+    parse_named(&table, Fault::NoLog, text)
 }
 
 fn parse_site<'a>(text: &'a [u8]) -> Result<Ask<'a>, Fault>
@@ -70,8 +66,7 @@ fn parse_send<'a>(text: &'a [u8]) -> Result<Ask<'a>, Fault>
 fn parse_at<'a>(site: u32, text: &'a [u8]) -> Result<Ask<'a>, Fault>
     ensures { told ask_value result ≡ at_in site (words text.now) }
 {
-    let (word, rest) = next_word(text);
-    let verb = parse_verb(word).ok_or(Fault::NoVerb)?;
+    let (verb, rest) = parse_verb(text)?;
     let deed = parse_deed(verb, rest)?;
     Ok(Ask::At { site, deed })
 }
