@@ -1,4 +1,4 @@
-// The names of the calls, the stores and the logs.
+// Tables of names, and the names of the calls.
 ghost use Rattle.std.specs.Prelude.{◌≡◌};
 ghost use Rattle.text.specs.Split.{words};
 ghost use Rattle.script.specs.Values.{told};
