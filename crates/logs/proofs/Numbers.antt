@@ -1,7 +1,7 @@
 -- Known numbers: a test of each, one of them set, the least of them.
 use Rattle.std.proofs.Common.{◌≡◌, ℕ, zero, suc, ◌+◌, ◌<◌, ◌≤◌, min, true, leb, List, [], ◌∷◌, length, get_or, set, fold, sym, refl, ap, ◌∙◌, arith}
-use Rattle.std.proofs.lemmas.Bool.{and_parts, lt-ltb, le-leb, eq-eqb}
-use Rattle.logs.specs.LogModel.{Marks, limit, a_mark, all_within, mark_noted, mark_closed, least}
+use Rattle.std.proofs.lemmas.Bool.{and_parts, lt-ltb, le-leb}
+use Rattle.logs.specs.LogModel.{Marks, limit, a_mark, all_within, mark_noted, least}
 
 pub within_set : (xs : List ℕ) (i x : ℕ) → leb x limit ≡ true → all_within xs ≡ true → all_within (set xs i x) ≡ true
 within_set [] i x h all = refl
@@ -24,13 +24,8 @@ pub least_begins : (ks : List ℕ) → 0 < length ks → fold min (get_or ks 0 0
 least_begins [] h = absurd (omega arith)
 least_begins (k ∷ ks) h = let e : min k k ≡ k = omega arith in ap (λ m. fold min m ks) e ∙ sym (least_folded k ks)
 
--- a note and a closing that are taken
+-- a note that is taken
 pub noted_is : (k : Marks) (site number : ℕ) → site < length k.known → number ≤ limit → k.place < limit →
     a_mark (k.place + 1) (set k.known site number) k.tickets k.whole ≡ mark_noted k site number
 noted_is k site number h l p =
     rw (lt-ltb site (length k.known) h, le-leb number limit l, lt-ltb k.place limit p)
-
-pub closed_is : (k : Marks) (place : ℕ) (known : List ℕ) → length known ≡ length k.known → place ≤ limit → all_within known ≡ true →
-    a_mark place known k.tickets true ≡ mark_closed k place known
-closed_is k place known e l w =
-    rw (eq-eqb (length known) (length k.known) e, le-leb place limit l, w)
