@@ -71,7 +71,7 @@ fn parse_at<'a>(site: u32, text: &'a [u8]) -> Result<Ask<'a>, Fault>
     Ok(Ask::At { site, deed })
 }
 
-/// What a line asks for, or why it is not understood.
+/// What a line asks for, or why it is not understood. Ifs and no table: what comes after the first word is read in other ways.
 pub fn parse_line<'a>(line: &'a [u8]) -> Result<Ask<'a>, Fault>
     ensures { told ask_value result ≡ line_in (words line.now) }
 {
@@ -85,8 +85,6 @@ pub fn parse_line<'a>(line: &'a [u8]) -> Result<Ask<'a>, Fault>
     if same(word, b"send") {
         return parse_send(rest);
     }
-    match decimal(word) {
-        Some(site) => parse_at(site, rest),
-        None => Err(Fault::NoCall),
-    }
+    let site = decimal(word).ok_or(Fault::NoCall)?;
+    parse_at(site, rest)
 }

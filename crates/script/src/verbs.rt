@@ -32,7 +32,7 @@ pub enum Verb {
     Show,
 }
 
-// What the word names in the table.
+// What the word names in the table: one search for calls, stores and logs, where a TryFrom for each would be longer.
 fn find_named<T: Copy>(table: &[(&[u8], T)], word: &[u8]) -> Option<T>
     ensures { result ≡ named (row_values table.now) word.now }
 {

@@ -3,7 +3,7 @@ ghost use Rattle.std.specs.Prelude.{◌≡◌, Decides};
 ghost use Rattle.std.specs.Str.{bytes_eq};
 ghost use Rattle.text.specs.Names.{is_name};
 
-/// Whether the two texts have the same bytes.
+/// Whether the two texts have the same bytes: `==` by a name, whose clause says `bytes_eq`, which callers' clauses cite.
 pub fn same(a: &[u8], b: &[u8]) -> bool
     ensures value { result ≡ bytes_eq a.now b.now }
     ensures decides { Decides result (a.now ≡ b.now) }

@@ -25,7 +25,7 @@ fn with_digit(number: u32, byte: u8, base: u32) -> Option<u32>
     number.checked_mul(base)?.checked_add(digit)
 }
 
-// The number that the digits write, if there are only digits and 32 bits hold it.
+// The number that the digits write, if there are only digits and 32 bits hold it. A fold that can fail would say no more.
 fn number(digits: &[u8], base: u32) -> Option<u32>
     requires { (2 ≤ base) × (base ≤ 16) }
     ensures { result ≡ number_of base digits.now }
