@@ -1,15 +1,11 @@
 -- Slots settled one after another.
-use Rattle.std.proofs.Common.{◌≡◌, ℕ, zero, suc, ◌+◌, ◌<◌, ◌≤◌, Bool, true, false, cond, List, [], ◌∷◌, map, length, get_or, set, Some, None, Option, sym, refl, ap, ◌∙◌, add-one, arith}
+use Rattle.std.proofs.Common.{◌≡◌, ℕ, zero, suc, ◌+◌, ◌<◌, ◌≤◌, Bool, true, false, cond, List, [], ◌∷◌, map, length, set, Some, None, Option, sym, refl, ap, ◌∙◌, add-one, arith}
 use Rattle.std.specs.List.{slice_get}
 use Rattle.std.specs.Str.{bytes_eq}
 use Rattle.account.specs.declared.decisions.Decision.{Decision}
-use Rattle.site.specs.declared.edits.Edit.{Edit}
-use Rattle.site.specs.declared.slots.Slot.{Slot}
-use Rattle.site.specs.declared.slots.Slot.TheVariants.{Empty, Open, Posted, Decided}
 use Rattle.site.specs.Edits.{EditModel}
 use Rattle.site.specs.Spelling.{own_words}
-use Rattle.site.specs.Slots.{SlotModel, empty, opened, posted, decided, slot_model, settled, own_ticket}
-use Rattle.site.proofs.SlotLaws.{at_slot}
+use Rattle.site.specs.Slots.{SlotModel, empty, opened, posted, decided, settled, own_ticket}
 
 -- the first n changed, the rest as they were
 abbrev pub changed_up_to : (SlotModel → SlotModel) → ℕ → List SlotModel → List SlotModel
@@ -86,17 +82,3 @@ module _ (i : ℕ) (ws : List ℕ) (d : Decision) where
     pub settle_rest : n < length ss → own_ticket i ws (slice_get (changed_up_to (settled i ws d) n ss) n) ≡ None →
         changed_up_to (settled i ws d) n ss ≡ changed_up_to (settled i ws d) (n + 1) ss
     settle_rest within h = rest_by (slice_get ss n) within refl (ap (own_ticket i ws) (sym (next_unchanged (settled i ws d) n ss)) ∙ h)
-
--- what is found in a slot of the table
-not_own : (i : ℕ) (ws : List ℕ) (s : Slot) → ((e : Edit) → s ≡ Posted e → ⊥) → None ≡ own_ticket i ws (Some (slot_model s))
-not_own i ws Empty h = refl
-not_own i ws (Open e) h = refl
-not_own i ws (Posted e) h = absurd (h e refl)
-not_own i ws (Decided t x) h = refl
-
-module _ (i : ℕ) (ws : List ℕ) (xs : List Slot) (n : ℕ) (x : Slot) (within : n < length xs) where
-  pub own_at : (s : Slot) → get_or xs n x ≡ s → own_ticket i ws (Some (slot_model s)) ≡ own_ticket i ws (slice_get (map slot_model xs) n)
-  own_at s e = sym (ap (own_ticket i ws) (at_slot xs n x within s e))
-
-  pub own_none : ((e : Edit) → get_or xs n x ≡ Posted e → ⊥) → None ≡ own_ticket i ws (slice_get (map slot_model xs) n)
-  own_none h = not_own i ws (get_or xs n x) h ∙ own_at (get_or xs n x) refl

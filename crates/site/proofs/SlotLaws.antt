@@ -1,93 +1,40 @@
 -- The slots of a table, by what they hold.
-use Rattle.std.proofs.Common.{◌≡◌, ℕ, ◌+◌, ◌<◌, ◌≤◌, min, true, false, List, [], ◌∷◌, map, length, get_or, drop, Some, None, sym, refl, ap, ◌∙◌, add-one, arith}
+use Rattle.std.proofs.Common.{◌≡◌, ℕ, suc, ◌+◌, ◌<◌, ◌≤◌, min, Bool, cond, ltb, ◌&&◌, List, [], ◌∷◌, map, length, get_or, drop, Some, None, sym, refl, ap, ◌∙◌, arith}
 use Rattle.std.proofs.lemmas.List.{at_drop_more, at_drop_all, get_or-map, length-map}
-use Rattle.std.proofs.lemmas.Bool.{cond-false, cond-true, ne_eqb, eq-eqb}
-use Rattle.std.specs.List.{slice_get}
-use Rattle.std.proofs.lemmas.Option.{slice_get-get_or, slice_get_past}
+use Rattle.std.proofs.lemmas.Bool.{lt-ltb}
+use Rattle.std.proofs.lemmas.Bool.Decides.{nat_tests}
+use Rattle.std.specs.List.{slice_get, list_all, position_or_len}
+use Rattle.std.proofs.lemmas.Option.{slice_get-get_or}
 use Rattle.site.specs.declared.edits.Edit.{Edit}
-use Rattle.account.specs.declared.decisions.Decision.{Decision}
 use Rattle.site.specs.declared.slots.Slot.{Slot}
 use Rattle.site.specs.declared.slots.Slot.TheVariants.{Empty, Open, Posted, Decided}
-use Rattle.site.specs.Edits.{edit_model}
-use Rattle.site.specs.Slots.{SlotModel, empty, opened, posted, decided, slot_model, empty_from, all_empty, held_open, open_edit, held_posted, has_posted, held_decision, least_needed}
+use Rattle.site.specs.Slots.{SlotModel, empty, opened, posted, decided, slot_model, is_empty, empty_from, lowest_empty, all_empty, least_needed}
 
-skip : (s : Slot) (i : ℕ) (ss : List SlotModel) → (s ≡ Empty → ⊥) → empty_from i (slot_model s ∷ ss) ≡ empty_from (i + 1) ss
-skip Empty i ss h = absurd (h refl)
-skip (Open e) i ss h = ap (λ k. empty_from k ss) (sym (add-one i))
-skip (Posted e) i ss h = ap (λ k. empty_from k ss) (sym (add-one i))
-skip (Decided t d) i ss h = ap (λ k. empty_from k ss) (sym (add-one i))
+-- whether a slot is empty, in the library's words for all slots and for the first
+abbrev pub is_free : Slot → Bool
+is_free s = is_empty (slot_model s)
 
-not_open : (s : Slot) (ticket : ℕ) → ((e : Edit) → s ≡ Open e → ⊥) → None ≡ held_open (Some (slot_model s)) ticket
-not_open Empty ticket h = refl
-not_open (Open e) ticket h = absurd (h e refl)
-not_open (Posted e) ticket h = refl
-not_open (Decided t d) ticket h = refl
+pub all_free : (xs : List Slot) → list_all is_free xs ≡ all_empty (map slot_model xs)
+all_free [] = refl
+all_free (x ∷ xs) = ap (λ b. is_free x && b) (all_free xs)
 
-module _ (xs : List Slot) (i : ℕ) (d : Slot) (within : i < length xs) where
-  shown : i < length (map slot_model xs)
-  shown = rw length-map within
+one_on : (i k n : ℕ) → cond (ltb k n) (Some (suc i + k)) None ≡ cond (ltb (1 + k) (suc n)) (Some (i + (1 + k))) None
+one_on i k n = grind (arith, nat_tests)
 
-  at_drop : {Y : Type 0} (F : List SlotModel → Y) → F (drop i (map slot_model xs)) ≡ F (slot_model (get_or xs i d) ∷ drop (i + 1) (map slot_model xs))
-  at_drop F =
-      at_drop_more F (map slot_model xs) i (slot_model d) shown ∙ ap (λ s. F (s ∷ drop (i + 1) (map slot_model xs))) (get_or-map slot_model xs i d (slot_model d) within)
+free_from : (i : ℕ) (xs : List Slot) → cond (ltb (position_or_len is_free xs) (length xs)) (Some (i + position_or_len is_free xs)) None ≡ empty_from i (map slot_model xs)
+free_from i [] = refl
+free_from i (Empty ∷ xs) = ap (λ b. cond b (Some (i + 0)) None) (lt-ltb 0 (suc (length xs)) (omega arith)) ∙ ap Some (omega arith)
+free_from i (Open e ∷ xs) = sym (one_on i (position_or_len is_free xs) (length xs)) ∙ free_from (suc i) xs
+free_from i (Posted e ∷ xs) = sym (one_on i (position_or_len is_free xs) (length xs)) ∙ free_from (suc i) xs
+free_from i (Decided t d ∷ xs) = sym (one_on i (position_or_len is_free xs) (length xs)) ∙ free_from (suc i) xs
 
-  pub empty_here : get_or xs i d ≡ Empty → empty_from i (drop i (map slot_model xs)) ≡ Some i
-  empty_here e = at_drop (empty_from i) ∙ ap (λ s. empty_from i (slot_model s ∷ drop (i + 1) (map slot_model xs))) e
+pub first_free : (xs : List Slot) → cond (ltb (position_or_len is_free xs) (length xs)) (Some (position_or_len is_free xs)) None ≡ lowest_empty (map slot_model xs)
+first_free xs = ap (λ k. cond (ltb (position_or_len is_free xs) (length xs)) (Some k) None) (omega arith) ∙ free_from 0 xs
 
-  pub empty_more : (get_or xs i d ≡ Empty → ⊥) → empty_from i (drop i (map slot_model xs)) ≡ empty_from (i + 1) (drop (i + 1) (map slot_model xs))
-  empty_more h = at_drop (empty_from i) ∙ skip (get_or xs i d) i _ h
-
-  pub at_slot : (s : Slot) → get_or xs i d ≡ s → slice_get (map slot_model xs) i ≡ Some (slot_model s)
-  at_slot s e = slice_get-get_or (map slot_model xs) i (slot_model d) shown ∙ ap Some (get_or-map slot_model xs i d (slot_model d) within) ∙ ap (λ x. Some (slot_model x)) e
-
-  pub open_here : (e : Edit) (ticket : ℕ) → get_or xs i d ≡ Open e → e.ticket ≡ ticket → Some (edit_model e) ≡ open_edit (map slot_model xs) i ticket
-  open_here e ticket is mine =
-      sym (ap (λ o. held_open o ticket) (at_slot (Open e) is) ∙ cond-true _ _ _ (eq-eqb _ _ mine))
-
-  pub open_other : (e : Edit) (ticket : ℕ) → get_or xs i d ≡ Open e → (e.ticket ≡ ticket → ⊥) → None ≡ open_edit (map slot_model xs) i ticket
-  open_other e ticket is other =
-      sym (ap (λ o. held_open o ticket) (at_slot (Open e) is) ∙ cond-false _ _ _ (ne_eqb _ _ other))
-
-  pub open_none : (ticket : ℕ) → ((e : Edit) → get_or xs i d ≡ Open e → ⊥) → None ≡ open_edit (map slot_model xs) i ticket
-  open_none ticket h = not_open (get_or xs i d) ticket h ∙ sym (ap (λ o. held_open o ticket) (at_slot (get_or xs i d) refl))
-
-not_posted : (s : Slot) (ticket : ℕ) → ((e : Edit) → s ≡ Posted e → ⊥) → ((t : ℕ) (d : Decision) → s ≡ Decided t d → ⊥) → false ≡ held_posted (Some (slot_model s)) ticket
-not_posted Empty ticket p d = refl
-not_posted (Open e) ticket p d = refl
-not_posted (Posted e) ticket p d = absurd (p e refl)
-not_posted (Decided t x) ticket p d = absurd (d t x refl)
-
-module _ (xs : List Slot) (i ticket : ℕ) (d : Slot) (within : i < length xs) where
-  pub posted_at : (s : Slot) → get_or xs i d ≡ s → held_posted (Some (slot_model s)) ticket ≡ has_posted (map slot_model xs) i ticket
-  posted_at s e = sym (ap (λ o. held_posted o ticket) (at_slot xs i d within s e))
-
-  pub posted_none : ((e : Edit) → get_or xs i d ≡ Posted e → ⊥) → ((t : ℕ) (x : Decision) → get_or xs i d ≡ Decided t x → ⊥) → false ≡ has_posted (map slot_model xs) i ticket
-  posted_none p q = not_posted (get_or xs i d) ticket p q ∙ posted_at (get_or xs i d) refl
-
-pub posted_outside : (xs : List Slot) (i ticket : ℕ) → length xs ≤ i → false ≡ has_posted (map slot_model xs) i ticket
-posted_outside xs i ticket past = sym (ap (λ o. held_posted o ticket) (slice_get_past (map slot_model xs) i (rw length-map past)))
-
-pub empty_end : (xs : List Slot) (i : ℕ) → length xs ≤ i → empty_from i (drop i (map slot_model xs)) ≡ None
-empty_end xs i past = at_drop_all (empty_from i) (map slot_model xs) i (rw length-map past)
-
-pub open_outside : (xs : List Slot) (i ticket : ℕ) → length xs ≤ i → None ≡ open_edit (map slot_model xs) i ticket
-open_outside xs i ticket past = sym (ap (λ o. held_open o ticket) (slice_get_past (map slot_model xs) i (rw length-map past)))
-
--- whether all are empty, one slot after another
-full : (s : Slot) (ss : List SlotModel) → (s ≡ Empty → ⊥) → all_empty (slot_model s ∷ ss) ≡ false
-full Empty ss h = absurd (h refl)
-full (Open e) ss h = refl
-full (Posted e) ss h = refl
-full (Decided t d) ss h = refl
-
-pub all_stop : (xs : List Slot) (i : ℕ) (d : Slot) → i < length xs → (get_or xs i d ≡ Empty → ⊥) → all_empty (drop i (map slot_model xs)) ≡ false
-all_stop xs i d within h = at_drop xs i d within all_empty ∙ full (get_or xs i d) (drop (i + 1) (map slot_model xs)) h
-
-pub all_more : (xs : List Slot) (i : ℕ) (d : Slot) → i < length xs → get_or xs i d ≡ Empty → all_empty (drop i (map slot_model xs)) ≡ all_empty (drop (i + 1) (map slot_model xs))
-all_more xs i d within e = at_drop xs i d within all_empty ∙ ap (λ s. all_empty (slot_model s ∷ drop (i + 1) (map slot_model xs))) e
-
-pub all_end : (xs : List Slot) (i : ℕ) → length xs ≤ i → all_empty (drop i (map slot_model xs)) ≡ true
-all_end xs i past = at_drop_all all_empty (map slot_model xs) i (rw length-map past)
+-- a slot of the table
+pub slot_at : (xs : List Slot) (i : ℕ) (s : Slot) → i < length xs → s ≡ get_or xs i s → slice_get (map slot_model xs) i ≡ Some (slot_model s)
+slot_at xs i s within e =
+    slice_get-get_or (map slot_model xs) i (slot_model s) (rw length-map within) ∙ ap Some (get_or-map slot_model xs i s (slot_model s) within) ∙ ap (λ x. Some (slot_model x)) (sym e)
 
 -- the least version that is needed, one slot after another
 abbrev pub needed_after : ℕ → Slot → ℕ
@@ -112,27 +59,12 @@ pub needed_more : (xs : List Slot) (i : ℕ) (d : Slot) (v less : ℕ) → i < l
     least_needed less (drop (i + 1) (map slot_model xs)) ≡ least_needed v (drop i (map slot_model xs))
 needed_more xs i d v less within e =
     ap (λ n. least_needed n (drop (i + 1) (map slot_model xs))) e
-    ∙ sym (at_drop xs i d within (least_needed v) ∙ needed_step v (get_or xs i d) _)
+    ∙ sym (at_drop_more (least_needed v) (map slot_model xs) i (slot_model d) (rw length-map within)
+    ∙ ap (λ s. least_needed v (s ∷ drop (i + 1) (map slot_model xs))) (get_or-map slot_model xs i d (slot_model d) within)
+    ∙ needed_step v (get_or xs i d) _)
 
 pub needed_end : (xs : List Slot) (i v : ℕ) → length xs ≤ i → least_needed v (drop i (map slot_model xs)) ≡ v
 needed_end xs i v past = at_drop_all (least_needed v) (map slot_model xs) i (rw length-map past)
-
--- the decision in a slot
-not_decided : (s : Slot) → ((t : ℕ) (d : Decision) → s ≡ Decided t d → ⊥) → None ≡ held_decision (Some (slot_model s))
-not_decided Empty h = refl
-not_decided (Open e) h = refl
-not_decided (Posted e) h = refl
-not_decided (Decided t x) h = absurd (h t x refl)
-
-module _ (xs : List Slot) (i : ℕ) (d : Slot) (within : i < length xs) where
-  pub decided_at : (s : Slot) → get_or xs i d ≡ s → held_decision (Some (slot_model s)) ≡ held_decision (slice_get (map slot_model xs) i)
-  decided_at s e = sym (ap held_decision (at_slot xs i d within s e))
-
-  pub decided_none : ((t : ℕ) (x : Decision) → get_or xs i d ≡ Decided t x → ⊥) → None ≡ held_decision (slice_get (map slot_model xs) i)
-  decided_none h = not_decided (get_or xs i d) h ∙ decided_at (get_or xs i d) refl
-
-pub decided_outside : (xs : List Slot) (i : ℕ) → length xs ≤ i → None ≡ held_decision (slice_get (map slot_model xs) i)
-decided_outside xs i past = sym (ap held_decision (slice_get_past (map slot_model xs) i (rw length-map past)))
 
 -- no version beyond the site's own is needed
 pub needed_within : (v : ℕ) (ss : List SlotModel) → least_needed v ss ≤ v

@@ -41,7 +41,7 @@ pub enum Request {
 }
 
 /// What a call that is carried out answers. Words that were written stand at the buffer's front; the answer says how many.
-#[derive(Clone, Copy)]
+#[derive(Clone, Copy, PartialEq, Eq, Debug)]
 pub enum Response {
     Drafted(Handle),
     Value(Option<i32>),

@@ -8,6 +8,7 @@ use crate::turns::Turn;
 use account::decisions::Decision;
 use site::calls::{Request, Response};
 use site::handles::Handle;
+use site::site::changes::Stepped;
 use std::test::Fail;
 
 #[test]
@@ -117,14 +118,14 @@ fn writes_are_declined_from_opening_to_sealing(rt: HostRuntime) -> Result<(), Fa
             Turn::Fills(FIRST),
             Turn::Delivers(1, Words::Edit(1, 1, 0, 2, 20), Decision::Commit(1)),
             Turn::Sets(FIRST, 1, 11),
-            Turn::Asks(Request::Step, Response::Opened),
+            Turn::Asks(Request::Step, Response::Stepped(Stepped::Opened)),
             Turn::Keeps(FIRST, 1, 12, 7),
             Turn::Keeps(SECOND, 1, 12, 6),
             Turn::Keeps(FIRST, 268_435_456, 12, 7),
             Turn::Keeps(FIRST, 17, 12, 7),
-            Turn::Asks(Request::Step, Response::Staged),
+            Turn::Asks(Request::Step, Response::Stepped(Stepped::Staged)),
             Turn::Keeps(FIRST, 1, 12, 7),
-            Turn::Asks(Request::Step, Response::Sealed),
+            Turn::Asks(Request::Step, Response::Stepped(Stepped::Sealed)),
             Turn::Sets(FIRST, 1, 12),
             Turn::Reads(FIRST, 1, Some(12)),
         ],

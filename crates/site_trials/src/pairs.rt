@@ -2,6 +2,7 @@
 use crate::turns::{Turn, play};
 use logs::api::Log;
 use logs::flat::Flat;
+use logs::heads::NewEntry;
 use logs::packed::Packed;
 use logs::row::FlatEntry;
 use site::site::Site;
@@ -29,19 +30,15 @@ fn chains(heap: Global, records: u8) -> Result<Chains, Fail> {
 }
 
 fn flat(heap: Global, entries: u8) -> Result<Flat, Fail> {
-    match Flat::new(2, vec![in heap; FlatEntry::new(); usize::from(entries)]?) {
-        Ok(log) => Ok(log),
-        Err(_) => Err(Fail::new("the flat log was not made")),
-    }
+    let memory = vec![in heap; FlatEntry::new(); usize::from(entries)]?;
+    Flat::new(2, memory).map_err(|_| Fail::new("the flat log was not made"))
 }
 
 // Room for so many entries of one write, and for all but one word of another.
 fn packed(heap: Global, entries: u8) -> Result<Packed, Fail> {
     let words = usize::from(entries) * 5 + 4;
-    match Packed::new(heap, 2, vec![in heap; 0u32; words]?) {
-        Ok(log) => Ok(log),
-        Err(_) => Err(Fail::new("the packed log was not made")),
-    }
+    let memory = vec![in heap; 0u32; words]?;
+    Packed::new(heap, 2, memory).map_err(|_| Fail::new("the packed log was not made"))
 }
 
 // What was done to the store or to the log before the site is made.
@@ -75,7 +72,11 @@ fn spoil<S: Store, L: Log>(store: &mut S, log: &mut L, before: Before) {
         Before::Ticketed => log.ticket(),
         Before::Passed => log.pass(),
         Before::Copied => {
-            let _ = log.copy(1, 1, &[Write { item: 1, change }]);
+            let _ = log.copy(NewEntry {
+                home: 1,
+                ticket: 1,
+                writes: &[Write { item: 1, change }],
+            });
         }
         Before::Known => log.close(0, &[0, 1]),
     }

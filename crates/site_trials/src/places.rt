@@ -7,6 +7,7 @@ use crate::spelt::Words;
 use crate::turns::Turn;
 use account::decisions::Decision;
 use site::calls::{Request, Response};
+use site::site::changes::Stepped;
 use std::test::Fail;
 
 #[test]
@@ -107,9 +108,9 @@ fn edit_is_too_old_by_the_horizon_and_not_by_the_floor(rt: HostRuntime) -> Resul
             Turn::Delivers(6, Words::Edit(1, 4, 0, 4, 8), Decision::TooOld),
             Turn::Delivers(7, Words::Edit(1, 4, 1, 4, 8), Decision::Commit(4)),
             Turn::Leads(Request::Page(0), Words::Entry(1, 1)),
-            Turn::Asks(Request::Step, Response::Opened),
-            Turn::Asks(Request::Step, Response::Staged),
-            Turn::Asks(Request::Step, Response::Sealed),
+            Turn::Asks(Request::Step, Response::Stepped(Stepped::Opened)),
+            Turn::Asks(Request::Step, Response::Stepped(Stepped::Staged)),
+            Turn::Asks(Request::Step, Response::Stepped(Stepped::Sealed)),
             Turn::Delivers(8, Words::Report(0, 4), Decision::Noted),
             Turn::Delivers(9, Words::Report(1, 4), Decision::Noted),
             Turn::Does(Request::Trim),

@@ -1,5 +1,6 @@
 // Words of messages and pages of a group of two sites, by what they say.
 use crate::said::{BLANK, ROOM};
+use few::Few;
 
 #[derive(Clone, Copy)]
 pub(crate) enum Words {
@@ -18,83 +19,66 @@ pub(crate) enum Words {
     Closing(u32, u32, u32, u32),
 }
 
-fn spell_sixteen(words: [u32; ROOM]) -> [u32; ROOM] {
-    let mut words = words;
-    for i in 0..16usize {
-        words[3 + 2 * i] = 0x5000_0001 + i as u32;
-        words[4 + 2 * i] = 0x6000_0007;
-    }
-    words[34] = 0x6000_0008;
-    words
-}
-
-// Five words in front, and how many there are.
-fn spell_five(
-    first: u32,
-    second: u32,
-    third: u32,
-    fourth: u32,
-    fifth: u32,
-) -> ([u32; ROOM], usize) {
-    let mut words = [BLANK; ROOM];
-    words[0] = first;
-    words[1] = second;
-    words[2] = third;
-    words[3] = fourth;
-    words[4] = fifth;
-    (words, 5)
-}
-
-// The words, and how many there are; the rest is blank.
-pub(crate) fn spell(words: Words) -> ([u32; ROOM], usize) {
+// The words.
+pub(crate) fn spell(words: Words) -> Few<u32, ROOM> {
     match words {
-        Words::None => ([BLANK; ROOM], 0),
-        Words::Edit(home, ticket, snapshot, item, value) => spell_five(
-            0x1000_0001 | (home << 24),
-            0x3000_0000 | ticket,
-            0x4000_0000 | snapshot,
-            0x5000_0000 | item,
-            0x6000_0000 | value,
+        Words::None => Few::new(BLANK),
+        Words::Edit(home, ticket, snapshot, item, value) => Few::from_slice(
+            BLANK,
+            &[
+                0x1000_0001 | (home << 24),
+                0x3000_0000 | ticket,
+                0x4000_0000 | snapshot,
+                0x5000_0000 | item,
+                0x6000_0000 | value,
+            ],
         ),
-        Words::Two(ticket, snapshot) => {
-            let (mut words, _) = spell_five(
+        Words::Two(ticket, snapshot) => Few::from_slice(
+            BLANK,
+            &[
                 0x1100_0002,
                 0x3000_0000 | ticket,
                 0x4000_0000 | snapshot,
                 0x5000_0001,
                 0x6000_000a,
-            );
-            words[5] = 0x5000_0002;
-            words[6] = 0x6000_0014;
-            (words, 7)
-        }
-        Words::Sixteen => {
-            let (words, _) = spell_five(0x1000_0010, 0x3000_0001, 0x4000_0000, BLANK, BLANK);
-            (spell_sixteen(words), 35)
-        }
-        Words::Report(site, version) => {
-            let (words, _) = spell_five(
-                0x2000_0000 | (site << 24),
-                0x4000_0000 | version,
-                BLANK,
-                BLANK,
-                BLANK,
-            );
-            (words, 2)
-        }
-        Words::Entry(version, ticket) => spell_five(
-            0x8100_0001,
-            0x4000_0000 | version,
-            0x3000_0000 | ticket,
-            0x5000_0001,
-            0x6000_0005,
+                0x5000_0002,
+                0x6000_0014,
+            ],
         ),
-        Words::Closing(version, place, first, second) => spell_five(
-            0x9000_0002,
-            0x4000_0000 | version,
-            0xa000_0000 | place,
-            0xb000_0000 | first,
-            0xb000_0000 | second,
+        Words::Sixteen => spell_sixteen(),
+        Words::Report(site, version) => Few::from_slice(
+            BLANK,
+            &[0x2000_0000 | (site << 24), 0x4000_0000 | version],
+        ),
+        Words::Entry(version, ticket) => Few::from_slice(
+            BLANK,
+            &[
+                0x8100_0001,
+                0x4000_0000 | version,
+                0x3000_0000 | ticket,
+                0x5000_0001,
+                0x6000_0005,
+            ],
+        ),
+        Words::Closing(version, place, first, second) => Few::from_slice(
+            BLANK,
+            &[
+                0x9000_0002,
+                0x4000_0000 | version,
+                0xa000_0000 | place,
+                0xb000_0000 | first,
+                0xb000_0000 | second,
+            ],
         ),
     }
+}
+
+fn spell_sixteen() -> Few<u32, ROOM> {
+    let mut words = Few::from_slice(BLANK, &[0x1000_0010, 0x3000_0001, 0x4000_0000]);
+    for item in 1..17u32 {
+        let value = if item == 16 { 8 } else { 7 };
+        let _ = words.push(0x5000_0000 | item);
+        let _ = words.push(0x6000_0000 | value);
+    }
+    words
 }

@@ -1,11 +1,13 @@
 // Trials as lists of turns: a call at site 0 of a group of two, and what it has to answer.
 use crate::moments::Moment;
-use crate::said::{BLANK, ROOM, check_same, declined, written};
+use crate::said::{BLANK, ROOM, declined, written};
 use crate::seen::{check_seen, see};
 use crate::spelt::{Words, spell};
 use account::decisions::Decision;
+use few::Few;
 use site::calls::{Calls, Request, Response};
 use site::handles::Handle;
+use site::site::changes::Stepped;
 use std::process::Abort;
 use words::changes::{Change, Write};
 
@@ -55,8 +57,8 @@ fn declines<C: Calls>(
     let before = see(site);
     let mut out = [BLANK; ROOM];
     assert!(rt; room <= ROOM, "{moment}");
-    let response = site.call(request, words, &mut out[0..room]);
-    assert_eq!(rt; declined(response), Some(number), "{moment}");
+    let answer = site.call(request, words, &mut out[0..room]);
+    assert_eq!(rt; declined(answer), Some(number), "{moment}");
     assert_eq!(rt; out, [BLANK; ROOM], "{moment}");
     check_seen(rt, moment, before, see(site));
 }
@@ -70,7 +72,11 @@ fn asks<C: Calls>(
     expected: Response,
 ) {
     let mut out = [BLANK; ROOM];
-    check_same(rt, moment, site.call(request, words, &mut out), expected);
+    assert_eq!(rt;
+        site.call(request, words, &mut out),
+        Ok(expected),
+        "{moment}"
+    );
 }
 
 // The call writes these words into a buffer with this room, and leaves the rest.
@@ -80,14 +86,15 @@ fn writes_in<C: Calls>(
     site: &mut C,
     request: Request,
     room: usize,
-    words: [u32; ROOM],
-    count: usize,
+    words: Few<u32, ROOM>,
 ) {
     assert!(rt; room <= ROOM, "{moment}");
     let mut out = [BLANK; ROOM];
-    let response = site.call(request, &[], &mut out[0..room]);
-    assert_eq!(rt; written(response), Some(count), "{moment}");
-    assert_eq!(rt; out, words, "{moment}");
+    let answer = site.call(request, &[], &mut out[0..room]);
+    assert_eq!(rt; written(answer), Some(words.len()), "{moment}");
+    let (front, rest) = out.split_at(words.len());
+    assert_eq!(rt; front, words.as_slice(), "{moment}");
+    assert!(rt; rest.iter().all(|word| *word == BLANK), "{moment}");
 }
 
 fn writes<C: Calls>(
@@ -97,10 +104,10 @@ fn writes<C: Calls>(
     request: Request,
     expected: Words,
 ) {
-    let (words, count) = spell(expected);
-    assert!(rt; 1 <= count, "{moment}");
-    declines(rt, moment, site, request, &[], count - 1, 10);
-    writes_in(rt, moment, site, request, count, words, count);
+    let words = spell(expected);
+    assert!(rt; !words.is_empty(), "{moment}");
+    declines(rt, moment, site, request, &[], words.len() - 1, 10);
+    writes_in(rt, moment, site, request, words.len(), words);
 }
 
 fn leads<C: Calls>(
@@ -110,8 +117,7 @@ fn leads<C: Calls>(
     request: Request,
     expected: Words,
 ) {
-    let (words, count) = spell(expected);
-    writes_in(rt, moment, site, request, ROOM, words, count);
+    writes_in(rt, moment, site, request, ROOM, spell(expected));
 }
 
 fn put(draft: Handle, item: u32, value: i32) -> Request {
@@ -136,8 +142,8 @@ fn begins<C: Calls>(rt: &impl Abort, moment: Moment, site: &mut C, slot: u32, ti
 }
 
 fn fills<C: Calls>(rt: &impl Abort, moment: Moment, site: &mut C, draft: Handle) {
-    for i in 0..16u32 {
-        asks(rt, moment, site, put(draft, 16 - i, 7), &[], Response::Done);
+    for item in (1..17u32).rev() {
+        asks(rt, moment, site, put(draft, item, 7), &[], Response::Done);
     }
 }
 
@@ -145,7 +151,7 @@ fn fills<C: Calls>(rt: &impl Abort, moment: Moment, site: &mut C, draft: Handle)
 fn catches_up<C: Calls>(rt: &impl Abort, moment: Moment, site: &mut C) {
     for _ in 0..40 {
         let mut none = [0u32; 0];
-        if let Response::Idle = site.call(Request::Step, &[], &mut none) {
+        if let Ok(Response::Stepped(Stepped::Idle)) = site.call(Request::Step, &[], &mut none) {
             return;
         }
     }
@@ -159,21 +165,12 @@ fn hand<C: Calls>(
     site: &mut C,
     request: Request,
     given: Words,
-    expected: Response,
+    expected: Result<Response, u32>,
 ) {
-    let (words, count) = spell(given);
-    assert!(rt; count <= ROOM, "{moment}");
+    let words = spell(given);
     match expected {
-        Response::Declined(number) => declines(
-            rt,
-            moment,
-            site,
-            request,
-            &words[0..count],
-            0,
-            number,
-        ),
-        _ => asks(rt, moment, site, request, &words[0..count], expected),
+        Ok(response) => asks(rt, moment, site, request, words.as_slice(), response),
+        Err(number) => declines(rt, moment, site, request, words.as_slice(), 0, number),
     }
 }
 
@@ -229,7 +226,7 @@ fn take_turn<C: Calls>(rt: &impl Abort, moment: Moment, site: &mut C, turn: Turn
                 site,
                 Request::Deliver(place),
                 words,
-                Response::Told(decision),
+                Ok(Response::Told(decision)),
             )
         }
         Turn::Misplaces(place, words, number) => {
@@ -239,18 +236,11 @@ fn take_turn<C: Calls>(rt: &impl Abort, moment: Moment, site: &mut C, turn: Turn
                 site,
                 Request::Deliver(place),
                 words,
-                Response::Declined(number),
+                Err(number),
             )
         }
-        Turn::Takes(words) => hand(rt, moment, site, Request::Take, words, Response::Done),
-        Turn::Rejects(words, number) => hand(
-            rt,
-            moment,
-            site,
-            Request::Take,
-            words,
-            Response::Declined(number),
-        ),
+        Turn::Takes(words) => hand(rt, moment, site, Request::Take, words, Ok(Response::Done)),
+        Turn::Rejects(words, number) => hand(rt, moment, site, Request::Take, words, Err(number)),
         Turn::Writes(request, words) => writes(rt, moment, site, request, words),
         Turn::Leads(request, words) => leads(rt, moment, site, request, words),
         Turn::CatchesUp => catches_up(rt, moment, site),

@@ -1,6 +1,6 @@
 // What is asked of the slots, and the one change to them.
-ghost use Rattle.std.specs.Prelude.{◌≡◌, ◌<◌, T, map, replicate, IfSome, OnSome, slice_set};
-ghost use Rattle.site.specs.Slots.{empty, slot_model, slots_model, lowest_empty, all_empty, open_edit, edit_of, has_posted, held_decision, least_needed, own_ticket, settled};
+ghost use Rattle.std.specs.Prelude.{◌≡◌, ◌<◌, T, Some, map, replicate, IfSome, OnSome, slice_set};
+ghost use Rattle.site.specs.Slots.{empty, is_empty, slot_model, slots_model, lowest_empty, all_empty, open_edit, edit_of, has_posted, held_decision, least_needed, own_ticket, settled};
 ghost use Rattle.std.specs.List.{slice_get};
 
 use super::{Slot, Slots};
@@ -8,6 +8,24 @@ use crate::edits::Edit;
 use crate::home::Home;
 use crate::spelling::is_spelt;
 use account::decisions::Decision;
+
+impl Slot {
+    fn is_empty(&self) -> bool
+        ensures { result ≡ is_empty (slot_model self.now) }
+    {
+        matches!(self, Slot::Empty)
+    }
+
+    // Whether the slot holds a posted edit of the site whose words these are, and under which ticket.
+    fn own_ticket(&self, home: Home, words: &[u32]) -> Option<u32>
+        ensures { result ≡ own_ticket home.number words.now (Some (slot_model self.now)) }
+    {
+        match self {
+            Slot::Posted(edit) if is_spelt(home, edit, words) => Some(edit.ticket),
+            _ => None,
+        }
+    }
+}
 
 impl Slots {
     // Eight empty slots.
@@ -23,26 +41,14 @@ impl Slots {
         ensures is { result ≡ lowest_empty (slots_model self.now) }
         ensures within { IfSome result (λ i. i < 8) }
     {
-        for i in 0..8u32 {
-            let held = &self.table[i as usize];
-            if let Slot::Empty = held {
-                return Some(i);
-            }
-        }
-        None
+        let lowest = self.table.iter().position(|slot| slot.is_empty())?;
+        Some(lowest as u32)
     }
 
     pub(crate) fn are_empty(&self) -> bool
         ensures { result ≡ all_empty (slots_model self.now) }
     {
-        for i in 0..8usize {
-            let held = &self.table[i];
-            match held {
-                Slot::Empty => {}
-                _ => return false,
-            }
-        }
-        true
+        self.table.iter().all(|slot| slot.is_empty())
     }
 
     // The edit that the slot holds open under the ticket.
@@ -50,18 +56,8 @@ impl Slots {
         ensures is { edit_of result ≡ open_edit (slots_model self.now) slot ticket }
         ensures within { OnSome result (slot < 8) }
     {
-        if slot >= 8 {
-            return None;
-        }
-        let held = &self.table[slot as usize];
-        match held {
-            Slot::Open(edit) => {
-                if edit.ticket == ticket {
-                    Some(edit)
-                } else {
-                    None
-                }
-            }
+        match self.table.get(slot as usize) {
+            Some(Slot::Open(edit)) if edit.ticket == ticket => Some(edit),
             _ => None,
         }
     }
@@ -71,13 +67,9 @@ impl Slots {
         ensures is { result ≡ has_posted (slots_model self.now) slot ticket }
         ensures within { T result → slot < 8 }
     {
-        if slot >= 8 {
-            return false;
-        }
-        let held = &self.table[slot as usize];
-        match held {
-            Slot::Posted(edit) => edit.ticket == ticket,
-            Slot::Decided { ticket: theirs, .. } => *theirs == ticket,
+        match self.table.get(slot as usize) {
+            Some(Slot::Posted(edit)) => edit.ticket == ticket,
+            Some(Slot::Decided { ticket: theirs, .. }) => *theirs == ticket,
             _ => false,
         }
     }
@@ -86,12 +78,8 @@ impl Slots {
     pub(crate) fn decision(&self, slot: u32) -> Option<Decision>
         ensures { result ≡ held_decision (slice_get (slots_model self.now) slot) }
     {
-        if slot >= 8 {
-            return None;
-        }
-        let held = &self.table[slot as usize];
-        match held {
-            Slot::Decided { decision, .. } => Some(*decision),
+        match self.table.get(slot as usize) {
+            Some(Slot::Decided { decision, .. }) => Some(*decision),
             _ => None,
         }
     }
@@ -101,9 +89,8 @@ impl Slots {
         ensures { result ≡ least_needed version (slots_model self.now) }
     {
         let mut least = version;
-        for i in 0..8usize {
-            let held = &self.table[i];
-            match held {
+        for slot in &self.table {
+            match slot {
                 Slot::Open(edit) => least = least.min(edit.snapshot),
                 Slot::Posted(edit) => least = least.min(edit.snapshot),
                 _ => {}
@@ -119,31 +106,13 @@ impl Slots {
         self.table[slot as usize] = to;
     }
 
-    // Whether the slot holds a posted edit of the site whose words these are, and under which ticket.
-    fn find_own(&self, home: Home, slot: usize, words: &[u32]) -> Option<u32>
-        requires { slot < 8 }
-        ensures { result ≡ own_ticket home.number words.now (slice_get (slots_model self.now) slot) }
-    {
-        let held = &self.table[slot];
-        match held {
-            Slot::Posted(edit) => {
-                if is_spelt(home, edit, words) {
-                    Some(edit.ticket)
-                } else {
-                    None
-                }
-            }
-            _ => None,
-        }
-    }
-
     // Gives the decision to the posted edits of the site whose words these are.
     pub(crate) fn settle(&mut self, home: Home, words: &[u32], decision: Decision)
         ensures { slots_model self.new ≡ map (settled home.number words.now decision) (slots_model self.old) }
     {
-        for i in 0..8usize {
-            if let Some(ticket) = self.find_own(home, i, words) {
-                self.table[i] = Slot::Decided { ticket, decision };
+        for slot in self.table.iter_mut() {
+            if let Some(ticket) = slot.own_ticket(home, words) {
+                *slot = Slot::Decided { ticket, decision };
             }
         }
     }
