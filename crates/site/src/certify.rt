@@ -1,10 +1,11 @@
 // Certification: which entries above a snapshot write an item that an edit writes.
-ghost use Rattle.std.specs.Prelude.{◌≡◌};
+ghost use Rattle.std.specs.Prelude.{◌≡◌, ◌≤◌};
 ghost use Rattle.account.specs.Account.{meets};
-ghost use Rattle.logs.specs.LogModel.{entry_at};
+ghost use Rattle.logs.specs.LogModel.{last_version, entry_at};
 ghost use Rattle.site.specs.Calls.{writes_in};
 ghost use Rattle.site.specs.Certify.{clash_above};
 
+use crate::gather::gather_entry;
 use account::certify::has_item;
 use logs::api::Log;
 use words::changes::Write;
@@ -13,26 +14,15 @@ use words::changes::Write;
 fn does_meet<L: Log>(log: &L, version: u32, writes: &[Write]) -> bool
     ensures { result ≡ meets (writes_in (entry_at (L.Log.model log.now) version)) writes.now }
 {
-    let mut number = 0;
-    while let Some(write) = log.write(version, number) {
-        if has_item(writes, write.item) {
-            return true;
-        }
-        number += 1;
-    }
-    false
+    let entry = gather_entry(log, version);
+    entry.as_slice().iter().any(|write| has_item(writes, write.item))
 }
 
 // The lowest version above the snapshot whose entry writes an item of these.
 pub(crate) fn find_clash<L: Log>(log: &L, snapshot: u32, writes: &[Write]) -> Option<u32>
+    requires { snapshot ≤ last_version (L.Log.model log.now) }
     ensures { result ≡ clash_above (L.Log.model log.now) snapshot writes.now }
 {
-    let mut version = snapshot.max(log.floor());
-    while version < log.last() {
-        version += 1;
-        if does_meet(log, version, writes) {
-            return Some(version);
-        }
-    }
-    None
+    let first = snapshot.max(log.floor()) + 1;
+    (first..log.last() + 1).find(|version| does_meet(log, *version, writes))
 }

@@ -1,22 +1,16 @@
-use Rattle.std.proofs.Common.{sym, ◌∙◌, arith}
-use Rattle.site.proofs.Clashes.{clash_more, clash_done}
+use Rattle.std.proofs.Common.{rules, tests, refl, ap, max, ◌+◌, ◌-◌, ◌∙◌}
+use Rattle.std.proofs.lemmas.Iterator.{YieldsList-from_range}
+use Rattle.std.proofs.lemmas.Iterator.Search.{find_from_yields_List}
+use Rattle.site.proofs.Clashes.{clashes, clash_from, same_option}
 use Rattle.site.proofs.certify.find_clash.Goals as goal
-
-pub returns-then-does_meet : goal.returns-then-does_meet
-returns-then-does_meet g c =
-    sym (clash_more (g.L.Log.model c.args.log.now) c.loop-version.version c.loop-version.invariant.0 c.args.writes.now _ (omega (arith, c.last.ensures))
-    (sym c.does_meet.ensures ∙ c.if-does_meet.true))
-    ∙ c.loop-version.invariant.1
-
-pub loop-version-preserved : goal.loop-version-preserved
-loop-version-preserved g c = (
-  omega (arith, c.loop-version.invariant.0),
-  sym (clash_more (g.L.Log.model c.args.log.now) c.loop-version.version c.loop-version.invariant.0 c.args.writes.now _ (omega (arith, c.last.ensures))
-      (sym c.does_meet.ensures ∙ c.if-does_meet.false))
-      ∙ c.loop-version.invariant.1,
-)
 
 pub returns : goal.returns
 returns g c =
-    sym (clash_done (g.L.Log.model c.args.log.now) c.loop-version.version c.loop-version.invariant.0 c.args.writes.now (omega (arith, c.last.ensures)))
-    ∙ c.loop-version.invariant.1
+    let m = g.L.Log.model c.args.log.now in
+    let l = c.args.writes.now in
+    let a = c.max-first.result + 1 in
+    let b = c.last.result + 1 in
+    same_option c.find.result
+    ∙ find_from_yields_List (clashes m l) _ _ c.find.result c.find.ensures.ran (YieldsList-from_range a b (b - a) refl refl) (λ x r q k. search (rules, tests))
+    ∙ clash_from m l c.args.snapshot a b
+    (ap (λ n. n + 1) (c.max-first.ensures ∙ ap (max c.args.snapshot) c.floor.ensures)) (ap (λ n. n + 1) c.last.ensures)
