@@ -1,7 +1,6 @@
 -- Writes read from words, one after another.
-use Rattle.std.proofs.Common.{◌≡◌, ℕ, ◌≤◌, true, false, cond, List, [], ◌∷◌, ◌++◌, length, take, is_some, Some, None, sym, refl, ap, ◌∙◌, arith}
-use Rattle.std.proofs.lemmas.List.{append_assoc, append-nil, take_at, take_all}
-use Rattle.std.proofs.lemmas.List.Edits.{insert_end}
+use Rattle.std.proofs.Common.{◌≡◌, ℕ, ◌≤◌, false, cond, List, [], ◌∷◌, ◌++◌, length, take, is_some, Some, None, sym, refl, ap, ◌∙◌, arith}
+use Rattle.std.proofs.lemmas.List.{append-nil, take_at, take_all}
 use Rattle.std.proofs.lemmas.Bool.{ltb-false}
 use Rattle.std.specs.List.{insert}
 use Rattle.few.specs.Lists.{has_room, inserted}
@@ -21,14 +20,6 @@ leading_none (i ∷ (c ∷ ws)) e = ap (λ o. and_then o (leading ws)) e
 
 -- the writes so far, and what the rest begins with, are what the whole begins with
 module _ (l whole k : List Write) (ws : List ℕ) (sofar : l ++ leading ws ≡ whole) where
-  -- one more, where there was room
-  pub gather_more : (w : Write) → first_write ws ≡ Some w → has_room 16 l ≡ true → k ≡ inserted 16 l (length l) w → k ++ leading (after_write ws) ≡ whole
-  gather_more w e room f =
-      ap (λ m. m ++ leading (after_write ws)) (f ∙ ap (λ b. cond b (insert l (length l) w) l) room ∙ insert_end l w)
-      ∙ append_assoc l (w ∷ []) (leading (after_write ws))
-      ∙ ap (λ m. l ++ m) (sym (leading_first ws w e))
-      ∙ sofar
-
   -- no room for one more
   pub gather_full : (w : Write) → has_room 16 l ≡ false → length l ≤ 16 → k ≡ inserted 16 l (length l) w → k ≡ take 16 whole
   gather_full w room few f =

@@ -43,8 +43,3 @@ held_within false es j k w a h = absurd (let z : ◌≡◌ {A = ℕ} 0 1 = cc in
 
 pub write_index : (m : LogModel) (v k : ℕ) (w : Write) → Bounded m → write_of (entry_at m v) k ≡ Some w → k < 16
 write_index m v k w b h = held_within _ m.entries _ k w b.readable h
-
--- the writes of an entry, as a log answers them
-pub write_nth : (o : Option Entry) (k : ℕ) → write_of o k ≡ slice_get (writes_in o) k
-write_nth None k = refl
-write_nth (Some e) k = refl

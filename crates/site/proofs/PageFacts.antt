@@ -26,11 +26,6 @@ within_every : (ks : List ℕ) → all_within ks ≡ every (λ k. leb k 26843545
 within_every [] = refl
 within_every (k ∷ ks) = rw (within_every ks)
 
-pub closing_held : (l : LogModel) → Bounded l → has_words (a_closing (last_version l) l.place l.known) ≡ true
-closing_held l b =
-    and_from _ _ (le-leb (length l.known) 8 b.few_sites) (and_from _ _ (held (last_version l) b.last_bound)
-    (and_from _ _ (held l.place b.place_bound) (sym (within_every l.known) ∙ b.known_bound)))
-
 -- an entry that a log has: its parts, and its place in the log
 pub record Kept (l : LogModel) (v : ℕ) (e : Entry) : Type 0 where
   pub home : e.home < 16

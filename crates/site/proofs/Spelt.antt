@@ -1,11 +1,10 @@
 -- What a site sends is valid in its group, so that only a short buffer is refused.
-use Rattle.std.proofs.Common.{◌≡◌, ℕ, ◌*◌, ◌<◌, ◌≤◌, Bool, true, false, cond, eqb, leb, List, [], ◌∷◌, ◌++◌, length, take, drop, Result, Ok, Err, sym, refl, ap, ◌∙◌, arith, length-take}
+use Rattle.std.proofs.Common.{◌≡◌, ℕ, ◌*◌, ◌≤◌, Bool, true, false, cond, eqb, leb, List, [], ◌∷◌, ◌++◌, length, take, drop, Result, Ok, Err, sym, refl, ap, ◌∙◌, arith, length-take}
 use Rattle.std.proofs.lemmas.List.{take_at}
-use Rattle.std.proofs.lemmas.Bool.{le-leb, lt-ltb, and_from, eqb-false}
+use Rattle.std.proofs.lemmas.Bool.{le-leb}
 use Rattle.words.specs.declared.changes.Write.{Write}
-use Rattle.words.specs.Bits.{in_range, is_group}
-use Rattle.words.specs.Writes.{fit_from, writes_words}
-use Rattle.words.specs.Messages.{an_edit, a_report, message_words, valid_message}
+use Rattle.words.specs.Writes.{writes_words}
+use Rattle.words.specs.Messages.{an_edit, message_words}
 use Rattle.words.specs.declared.encode.Refusal.{Refusal as WordsRefusal}
 use Rattle.words.specs.declared.encode.Refusal.TheVariants.{OutOfRange, TooShort}
 use Rattle.words.specs.Encoded.{reply, wrote, refused, put_answer, put_after}
@@ -13,22 +12,8 @@ use Rattle.few.specs.Lists.{few_items}
 use Rattle.site.specs.declared.refusals.Refusal.{Refusal}
 use Rattle.site.specs.Modes.{Reply, given, refused as call_refused, reply as call_reply, unwritten}
 use Rattle.site.specs.declared.edits.Edit.{Edit}
-use Rattle.site.specs.declared.home.Home.{Home}
 use Rattle.site.specs.Edits.{edit_model}
 use Rattle.site.specs.Spelling.{spelt, own_words}
-
--- a number that a load holds
-held : (least x : ℕ) → least ≤ x → x ≤ 268435455 → in_range least x ≡ true
-held least x a b = and_from _ _ (le-leb least x a) (lt-ltb x 268435456 (omega arith))
-
-pub valid_edit : (n i t s : ℕ) (l : List Write) → is_group n ≡ true → i < n → 0 < t → t ≤ 268435455 → s ≤ 268435455 →
-    0 < length l → length l ≤ 16 → fit_from 0 l ≡ true → valid_message n (an_edit i t s l) ≡ true
-valid_edit n i t s l g o a b c d e f =
-    and_from _ _ g (and_from _ _ (lt-ltb i n o) (and_from _ _ (held 1 t a b) (and_from _ _ (held 0 s (omega arith) c)
-    (and_from _ _ (le-leb 1 (length l) d) (and_from _ _ (le-leb (length l) 16 e) f)))))
-
-pub valid_report : (n i v : ℕ) → is_group n ≡ true → i < n → v ≤ 268435455 → valid_message n (a_report i v) ≡ true
-valid_report n i v g o c = and_from _ _ g (and_from _ _ (lt-ltb i n o) (held 0 v (omega arith) c))
 
 -- a writer's answer as the site's
 abbrev pub as_call : Result ℕ WordsRefusal → Result ℕ Refusal
@@ -68,9 +53,6 @@ front_by false r ws out after e n q =
 pub front_spelt : (r : Result ℕ Refusal) (ws out after : List ℕ) → (call_reply (λ n. n) r, after) ≡ spelt ws out → (n : ℕ) → r ≡ Ok n → take n after ≡ ws
 front_spelt r ws out = front_by (leb (length ws) (length out)) r ws out
 
-positive : (n : ℕ) → eqb n 0 ≡ false → 0 < n
-positive n h = let q = eqb-false n 0 h in omega arith
-
 length_writes : (l : List Write) → length (writes_words l) ≡ 2 * length l
 length_writes [] = refl
 length_writes (w ∷ l) = let e = length_writes l in omega arith
@@ -89,16 +71,3 @@ not_refused n ws out after long e =
     let s : call_refused n ≡ given (length ws) =
     ap (λ p. p.0) e ∙ ap (λ b. (cond {A = Reply ℕ × List ℕ} b (given (length ws), ws ++ drop (length ws) out) (call_refused 10, out)).0) (le-leb (length ws) (length out) long) in
     (let y : ◌≡◌ {A = ℕ} 0 1 = cc in omega arith)
-
--- an edit of the site that wrote something, with its writes as they are handed on
-module _ (h : Home) (e : Edit) (l : List Write) (same : l ≡ few_items e.writes) (some : eqb (length (few_items e.writes)) 0 ≡ false) where
-  pub valid_own : valid_message h.sites (an_edit h.number e.ticket e.snapshot l) ≡ true
-  valid_own =
-      let few : length (few_items e.writes) ≤ 16 = omega (arith, length-take e.writes.count e.writes.items, e.writes.few) in
-      ap (λ k. valid_message h.sites (an_edit h.number e.ticket e.snapshot k)) same
-      ∙ valid_edit h.sites h.number e.ticket e.snapshot (few_items e.writes) h.group h.own e.ticketed e.ticket_fits e.snapshot_fits (positive _ some) few e.orderly
-
-  pub words_own : message_words (an_edit h.number e.ticket e.snapshot l) ≡ own_words h.number (edit_model e)
-  words_own =
-      ap (λ k. message_words (an_edit h.number e.ticket e.snapshot k)) same
-      ∙ sym (ap (λ b. cond b [] (message_words (an_edit h.number e.ticket e.snapshot (few_items e.writes)))) some)

@@ -15,7 +15,10 @@ fn does_meet<L: Log>(log: &L, version: u32, writes: &[Write]) -> bool
     ensures { result ≡ meets (writes_in (entry_at (L.Log.model log.now) version)) writes.now }
 {
     let entry = gather_entry(log, version);
-    entry.as_slice().iter().any(|write| has_item(writes, write.item))
+    entry
+        .as_slice()
+        .iter()
+        .any(|write| has_item(writes, write.item))
 }
 
 // The lowest version above the snapshot whose entry writes an item of these.
