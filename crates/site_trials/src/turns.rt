@@ -44,80 +44,12 @@ pub(crate) enum Turn {
     CatchesUp,
 }
 
-// The call with these words and this room is declined with the number, and leaves the site, its drafts and the buffer.
-fn declines<C: Calls>(
-    rt: &impl Abort,
+// A site under trial, and where in the trial it is.
+#[derive(Drop)]
+struct Trial<'a, A: Abort, C: Calls> {
+    rt: &'a A,
     moment: Moment,
-    site: &mut C,
-    request: Request,
-    words: &[u32],
-    room: usize,
-    number: u32,
-) {
-    let before = see(site);
-    let mut out = [BLANK; ROOM];
-    assert!(rt; room <= ROOM, "{moment}");
-    let answer = site.call(request, words, &mut out[0..room]);
-    assert_eq!(rt; declined(answer), Some(number), "{moment}");
-    assert_eq!(rt; out, [BLANK; ROOM], "{moment}");
-    check_seen(rt, moment, before, see(site));
-}
-
-fn asks<C: Calls>(
-    rt: &impl Abort,
-    moment: Moment,
-    site: &mut C,
-    request: Request,
-    words: &[u32],
-    expected: Response,
-) {
-    let mut out = [BLANK; ROOM];
-    assert_eq!(rt;
-        site.call(request, words, &mut out),
-        Ok(expected),
-        "{moment}"
-    );
-}
-
-// The call writes these words into a buffer with this room, and leaves the rest.
-fn writes_in<C: Calls>(
-    rt: &impl Abort,
-    moment: Moment,
-    site: &mut C,
-    request: Request,
-    room: usize,
-    words: Few<u32, ROOM>,
-) {
-    assert!(rt; room <= ROOM, "{moment}");
-    let mut out = [BLANK; ROOM];
-    let answer = site.call(request, &[], &mut out[0..room]);
-    assert_eq!(rt; written(answer), Some(words.len()), "{moment}");
-    let (front, rest) = out.split_at(words.len());
-    assert_eq!(rt; front, words.as_slice(), "{moment}");
-    assert!(rt; rest.iter().all(|word| *word == BLANK), "{moment}");
-}
-
-fn writes<C: Calls>(
-    rt: &impl Abort,
-    moment: Moment,
-    site: &mut C,
-    request: Request,
-    expected: Words,
-) {
-    let words = spell(expected);
-    assert!(rt; !words.is_empty(), "{moment}");
-    declines(rt, moment, site, request, &[], words.len() - 1, 10);
-    writes_in(rt, moment, site, request, words.len(), words);
-}
-
-fn leads<C: Calls>(
-    rt: &impl Abort,
-    moment: Moment,
-    site: &mut C,
-    request: Request,
-    expected: Words,
-) {
-    writes_in(rt, moment, site, request, ROOM, spell(expected));
+    site: &'a mut C,
 }
 
 fn put(draft: Handle, item: u32, value: i32) -> Request {
@@ -125,131 +57,127 @@ fn put(draft: Handle, item: u32, value: i32) -> Request {
     Request::Put(draft, Write { item, change })
 }
 
-fn begins<C: Calls>(rt: &impl Abort, moment: Moment, site: &mut C, slot: u32, ticket: u32) {
-    let draft = Handle {
-        site: 0,
-        slot,
-        ticket,
-    };
-    asks(
-        rt,
-        moment,
-        site,
-        Request::Begin,
-        &[],
-        Response::Drafted(draft),
-    )
-}
-
-fn fills<C: Calls>(rt: &impl Abort, moment: Moment, site: &mut C, draft: Handle) {
-    for item in (1..17u32).rev() {
-        asks(rt, moment, site, put(draft, item, 7), &[], Response::Done);
+impl<A: Abort, C: Calls> Trial<'_, A, C> {
+    // The call with these words and this room is declined with the number, and leaves the site, its drafts and the buffer.
+    fn declines(&mut self, request: Request, words: &[u32], room: usize, number: u32) {
+        let rt = self.rt;
+        let moment = self.moment;
+        let before = see(self.site);
+        let mut out = [BLANK; ROOM];
+        assert!(rt; room <= ROOM, "{moment}");
+        let answer = self.site.call(request, words, &mut out[0..room]);
+        assert_eq!(rt; declined(answer), Some(number), "{moment}");
+        assert_eq!(rt; out, [BLANK; ROOM], "{moment}");
+        check_seen(rt, moment, before, see(self.site));
     }
-}
 
-// At most 40 steps.
-fn catches_up<C: Calls>(rt: &impl Abort, moment: Moment, site: &mut C) {
-    for _ in 0..40 {
-        let mut none = [0u32; 0];
-        if let Ok(Response::Stepped(Stepped::Idle)) = site.call(Request::Step, &[], &mut none) {
-            return;
+    // The call with these words is answered so; the buffer has room.
+    fn asks(&mut self, request: Request, words: &[u32], expected: Response) {
+        let rt = self.rt;
+        let moment = self.moment;
+        let mut out = [BLANK; ROOM];
+        let answer = self.site.call(request, words, &mut out);
+        assert_eq!(rt; answer, Ok(expected), "{moment}");
+    }
+
+    // The call writes these words into a buffer with this room, and leaves the rest.
+    fn writes_in(&mut self, request: Request, room: usize, words: Few<u32, ROOM>) {
+        let rt = self.rt;
+        let moment = self.moment;
+        assert!(rt; room <= ROOM, "{moment}");
+        let mut out = [BLANK; ROOM];
+        let answer = self.site.call(request, &[], &mut out[0..room]);
+        assert_eq!(rt; written(answer), Some(words.len()), "{moment}");
+        let (front, rest) = out.split_at(words.len());
+        assert_eq!(rt; front, words.as_slice(), "{moment}");
+        assert!(rt; rest.iter().all(|word| *word == BLANK), "{moment}");
+    }
+
+    fn writes(&mut self, request: Request, expected: Words) {
+        let rt = self.rt;
+        let moment = self.moment;
+        let words = spell(expected);
+        assert!(rt; !words.is_empty(), "{moment}");
+        self.declines(request, &[], words.len() - 1, 10);
+        self.writes_in(request, words.len(), words);
+    }
+
+    fn begins(&mut self, slot: u32, ticket: u32) {
+        let draft = Handle {
+            site: 0,
+            slot,
+            ticket,
+        };
+        self.asks(Request::Begin, &[], Response::Drafted(draft));
+    }
+
+    fn fills(&mut self, draft: Handle) {
+        for item in (1..17u32).rev() {
+            self.asks(put(draft, item, 7), &[], Response::Done);
         }
     }
-    panic!(rt; "the store is not done yet: {moment}")
-}
 
-// With words handed in.
-fn hand<C: Calls>(
-    rt: &impl Abort,
-    moment: Moment,
-    site: &mut C,
-    request: Request,
-    given: Words,
-    expected: Result<Response, u32>,
-) {
-    let words = spell(given);
-    match expected {
-        Ok(response) => asks(rt, moment, site, request, words.as_slice(), response),
-        Err(number) => declines(rt, moment, site, request, words.as_slice(), 0, number),
+    // At most 40 steps.
+    fn catches_up(&mut self) {
+        let rt = self.rt;
+        let moment = self.moment;
+        for _ in 0..40 {
+            let mut none = [0u32; 0];
+            let answer = self.site.call(Request::Step, &[], &mut none);
+            if let Ok(Response::Stepped(Stepped::Idle)) = answer {
+                return;
+            }
+        }
+        panic!(rt; "the store is not done yet: {moment}")
     }
-}
 
-fn take_turn<C: Calls>(rt: &impl Abort, moment: Moment, site: &mut C, turn: Turn) {
-    match turn {
-        Turn::Asks(request, expected) => asks(rt, moment, site, request, &[], expected),
-        Turn::Does(request) => asks(rt, moment, site, request, &[], Response::Done),
-        Turn::Declines(request, number) => declines(rt, moment, site, request, &[], ROOM, number),
-        Turn::Cramped(request, room, number) => declines(
-            rt,
-            moment,
-            site,
-            request,
-            &[],
-            room,
-            number,
-        ),
-        Turn::Begins(slot, ticket) => begins(rt, moment, site, slot, ticket),
-        Turn::Sets(draft, item, value) => asks(
-            rt,
-            moment,
-            site,
-            put(draft, item, value),
-            &[],
-            Response::Done,
-        ),
-        Turn::Keeps(draft, item, value, number) => {
-            declines(rt, moment, site, put(draft, item, value), &[], ROOM, number)
+    // With words handed in.
+    fn hand(&mut self, request: Request, given: Words, expected: Result<Response, u32>) {
+        let words = spell(given);
+        match expected {
+            Ok(response) => self.asks(request, words.as_slice(), response),
+            Err(number) => self.declines(request, words.as_slice(), 0, number),
         }
-        Turn::Fills(draft) => fills(rt, moment, site, draft),
-        Turn::Reads(draft, item, value) => {
-            asks(
-                rt,
-                moment,
-                site,
-                Request::Read(draft, item),
-                &[],
-                Response::Value(value),
-            )
+    }
+
+    fn take_turn(&mut self, turn: Turn) {
+        match turn {
+            Turn::Asks(request, expected) => self.asks(request, &[], expected),
+            Turn::Does(request) => self.asks(request, &[], Response::Done),
+            Turn::Declines(request, number) => self.declines(request, &[], ROOM, number),
+            Turn::Cramped(request, room, number) => self.declines(request, &[], room, number),
+            Turn::Begins(slot, ticket) => self.begins(slot, ticket),
+            Turn::Sets(draft, item, value) => {
+                self.asks(put(draft, item, value), &[], Response::Done)
+            }
+            Turn::Keeps(draft, item, value, number) => {
+                self.declines(put(draft, item, value), &[], ROOM, number)
+            }
+            Turn::Fills(draft) => self.fills(draft),
+            Turn::Reads(draft, item, value) => {
+                self.asks(Request::Read(draft, item), &[], Response::Value(value))
+            }
+            Turn::Looks(item, value) => self.asks(Request::Look(item), &[], Response::Value(value)),
+            Turn::Delivers(place, words, decision) => {
+                self.hand(Request::Deliver(place), words, Ok(Response::Told(decision)))
+            }
+            Turn::Misplaces(place, words, number) => {
+                self.hand(Request::Deliver(place), words, Err(number))
+            }
+            Turn::Takes(words) => self.hand(Request::Take, words, Ok(Response::Done)),
+            Turn::Rejects(words, number) => self.hand(Request::Take, words, Err(number)),
+            Turn::Writes(request, words) => self.writes(request, words),
+            Turn::Leads(request, words) => self.writes_in(request, ROOM, spell(words)),
+            Turn::CatchesUp => self.catches_up(),
         }
-        Turn::Looks(item, value) => asks(
-            rt,
-            moment,
-            site,
-            Request::Look(item),
-            &[],
-            Response::Value(value),
-        ),
-        Turn::Delivers(place, words, decision) => {
-            hand(
-                rt,
-                moment,
-                site,
-                Request::Deliver(place),
-                words,
-                Ok(Response::Told(decision)),
-            )
-        }
-        Turn::Misplaces(place, words, number) => {
-            hand(
-                rt,
-                moment,
-                site,
-                Request::Deliver(place),
-                words,
-                Err(number),
-            )
-        }
-        Turn::Takes(words) => hand(rt, moment, site, Request::Take, words, Ok(Response::Done)),
-        Turn::Rejects(words, number) => hand(rt, moment, site, Request::Take, words, Err(number)),
-        Turn::Writes(request, words) => writes(rt, moment, site, request, words),
-        Turn::Leads(request, words) => leads(rt, moment, site, request, words),
-        Turn::CatchesUp => catches_up(rt, moment, site),
     }
 }
 
 // Takes the turns one after another; a failure says over which pair, and how many went well.
-pub(crate) fn play<C: Calls>(rt: &impl Abort, pair: &'static str, site: &mut C, turns: &[Turn]) {
+pub(crate) fn play<A: Abort, C: Calls>(rt: &A, pair: &'static str, site: &mut C, turns: &[Turn]) {
     for (i, turn) in turns.iter().enumerate() {
-        take_turn(rt, Moment { pair, turns: i }, site, *turn);
+        let moment = Moment { pair, turns: i };
+        let mut trial = Trial { rt, moment, site };
+        trial.take_turn(*turn);
     }
 }
