@@ -1,10 +1,11 @@
 -- What a site sends is valid in its group, so that only a short buffer is refused.
-use Rattle.std.proofs.Common.{◌≡◌, ℕ, ◌*◌, ◌≤◌, Bool, true, false, cond, eqb, leb, List, [], ◌∷◌, ◌++◌, length, take, drop, Result, Ok, Err, sym, refl, ap, ◌∙◌, arith, length-take}
+use Rattle.std.proofs.Common.{◌≡◌, ℕ, ◌*◌, ◌<◌, ◌≤◌, Bool, true, false, cond, eqb, leb, List, [], ◌∷◌, ◌++◌, length, take, drop, Result, Ok, Err, sym, refl, ap, ◌∙◌, arith, length-take}
 use Rattle.std.proofs.lemmas.List.{take_at}
-use Rattle.std.proofs.lemmas.Bool.{le-leb}
+use Rattle.std.proofs.lemmas.Bool.{le-leb, lt-ltb, and_from}
 use Rattle.words.specs.declared.changes.Write.{Write}
-use Rattle.words.specs.Writes.{writes_words}
-use Rattle.words.specs.Messages.{an_edit, message_words}
+use Rattle.words.specs.Bits.{in_range, is_group}
+use Rattle.words.specs.Writes.{fit_from, writes_words}
+use Rattle.words.specs.Messages.{an_edit, message_words, valid_message}
 use Rattle.words.specs.declared.encode.Refusal.{Refusal as WordsRefusal}
 use Rattle.words.specs.declared.encode.Refusal.TheVariants.{OutOfRange, TooShort}
 use Rattle.words.specs.Encoded.{reply, wrote, refused, put_answer, put_after}
@@ -14,6 +15,16 @@ use Rattle.site.specs.Modes.{Reply, given, refused as call_refused, reply as cal
 use Rattle.site.specs.declared.edits.Edit.{Edit}
 use Rattle.site.specs.Edits.{edit_model}
 use Rattle.site.specs.Spelling.{spelt, own_words}
+
+-- a number that a load holds
+held : (least x : ℕ) → least ≤ x → x ≤ 268435455 → in_range least x ≡ true
+held least x a b = and_from _ _ (le-leb least x a) (lt-ltb x 268435456 (omega arith))
+
+pub valid_edit : (n i t s : ℕ) (l : List Write) → is_group n ≡ true → i < n → 0 < t → t ≤ 268435455 → s ≤ 268435455 →
+    0 < length l → length l ≤ 16 → fit_from 0 l ≡ true → valid_message n (an_edit i t s l) ≡ true
+valid_edit n i t s l g o a b c d e f =
+    and_from _ _ g (and_from _ _ (lt-ltb i n o) (and_from _ _ (held 1 t a b) (and_from _ _ (held 0 s (omega arith) c)
+    (and_from _ _ (le-leb 1 (length l) d) (and_from _ _ (le-leb (length l) 16 e) f)))))
 
 -- a writer's answer as the site's
 abbrev pub as_call : Result ℕ WordsRefusal → Result ℕ Refusal

@@ -59,7 +59,7 @@ impl From<Full> for Refusal {
 }
 
 impl Refusal {
-    /// The number of the refusal, 1 to 20.
+    /// The number of the refusal, 1 to 20, as the table of refusals has it.
     pub fn number(self) -> u32
         ensures { result ≡ refusal_number self }
     {

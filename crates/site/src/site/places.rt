@@ -18,7 +18,7 @@ use words::changes::Write;
 use words::limits::LIMIT;
 use words::messages::{Message, read_message};
 
-// An edit of a snapshot and writes, by the log.
+// An edit of a snapshot and writes, by the log. It is written apart from the account's own judge, which it is held against.
 fn judge<L: Log>(log: &L, snapshot: u32, writes: &[Write]) -> Decision
     ensures { result ≡ judged_by (L.Log.model log.now) snapshot writes.now }
 {

@@ -21,7 +21,8 @@ pub struct Sent {
     pub count: usize,
 }
 
-/// What is known of a posted edit: nothing yet, with the posted edit given back, or its decision.
+/// What is known of a posted edit: nothing yet, with the posted edit given back, or its decision. An option could not give
+/// it back.
 pub enum Answered {
     Pending(Posted),
     Decided(Decision),
