@@ -1,52 +1,89 @@
 // A line as it is printed: its words, and the answer.
-use crate::calls::{Outcome, front};
 use script::asks::Deed;
 use site::calls::{Response, Shown};
-use site::modes::Mode;
+use site::refusals::Refusal;
 use std::fmt;
 use std::fmt::Write;
-use text::numbers::hex_digits;
-use text::split::next_word;
+use text::split::Words;
 
-// The bytes of a word of a line that was understood, or of a word spelt: all are ASCII.
-fn put_bytes<W: Write>(line: &mut W, bytes: &[u8]) -> fmt::Result {
-    for byte in bytes {
-        line.write_char(*byte as char)?;
-    }
-    Ok(())
-}
+/// The words of a line that was understood, parted by single spaces.
+#[derive(Clone, Copy)]
+pub struct Spaced<'a>(pub &'a [u8]);
 
-/// The words of a line, parted by single spaces.
-pub fn put_line<W: Write>(line: &mut W, text: &[u8]) -> fmt::Result {
-    let (word, after) = next_word(text);
-    put_bytes(line, word)?;
-    let mut rest = after;
-    loop {
-        let (word, after) = next_word(rest);
-        if word.is_empty() {
-            return Ok(());
+impl fmt::Display for Spaced<'_> {
+    fn fmt<W: fmt::Write>(&self, f: &mut fmt::Formatter<W>) -> fmt::Result {
+        let mut words = Words(self.0);
+        if let Some(first) = words.next() {
+            put_word(f, first)?;
         }
-        line.write_str(" ")?;
-        put_bytes(line, word)?;
-        rest = after;
+        for word in words {
+            f.write_str(" ")?;
+            put_word(f, word)?;
+        }
+        Ok(())
     }
 }
 
-// What was written, and its words.
-fn put_words<W: Write>(line: &mut W, what: &str, words: &[u32]) -> fmt::Result {
-    line.write_str(what)?;
-    for word in words {
-        line.write_str(" ")?;
-        put_bytes(line, &hex_digits(*word))?;
+// A word of a line that was understood: all its bytes are ASCII.
+fn put_word<W: fmt::Write>(f: &mut fmt::Formatter<W>, word: &[u8]) -> fmt::Result {
+    for byte in word {
+        f.write_char(*byte as char)?;
     }
     Ok(())
 }
 
-fn mode_name(mode: Mode) -> &'static str {
-    match mode {
-        Mode::Whole => "whole",
-        Mode::Partial => "partial",
-        Mode::Down => "down",
+/// What a line comes to.
+#[derive(Drop)]
+pub enum Answer<'a> {
+    Made,
+    Place(usize),
+    Declined(Refusal),
+    Heard(Heard<'a>),
+    Seen(Shown),
+}
+
+impl fmt::Display for Answer<'_> {
+    fn fmt<W: fmt::Write>(&self, f: &mut fmt::Formatter<W>) -> fmt::Result {
+        match self {
+            Answer::Made => f.write_str("made"),
+            Answer::Place(place) => write!(f, "place {place}"),
+            Answer::Declined(refusal) => {
+                let number = refusal.number();
+                write!(f, "declined {number}")
+            }
+            Answer::Heard(heard) => write!(f, "{heard}"),
+            Answer::Seen(shown) => put_shown(f, shown),
+        }
+    }
+}
+
+/// What a site answers to a call that it carries out, with the words that it wrote.
+#[derive(Drop)]
+pub struct Heard<'a> {
+    pub deed: Deed<'a>,
+    pub response: Response,
+    pub written: Vec<u32>,
+}
+
+impl fmt::Display for Heard<'_> {
+    fn fmt<W: fmt::Write>(&self, f: &mut fmt::Formatter<W>) -> fmt::Result {
+        match self.response {
+            Response::Drafted(draft) => {
+                let slot = draft.slot;
+                let ticket = draft.ticket;
+                write!(f, "draft {slot} {ticket}")
+            }
+            Response::Value(Some(value)) => write!(f, "value {value}"),
+            Response::Value(None) => f.write_str("absent"),
+            Response::Done => f.write_str(done_name(self.deed)),
+            Response::ReadOnly => f.write_str("read only"),
+            Response::Sent(_, _) => put_words(f, "posted", &self.written),
+            Response::Pending => f.write_str("pending"),
+            Response::Told(decision) => write!(f, "{decision}"),
+            Response::Stepped(stepped) => write!(f, "{stepped}"),
+            Response::Wrote(_) => put_words(f, "words", &self.written),
+            Response::Woken(mode) => write!(f, "{mode}"),
+        }
     }
 }
 
@@ -64,65 +101,35 @@ fn done_name(deed: Deed) -> &'static str {
     }
 }
 
-fn put_value<W: Write>(line: &mut W, value: Option<i32>) -> fmt::Result {
-    match value {
-        Some(value) => write!(line, "value {value}"),
-        None => line.write_str("absent"),
+// What was written, and its words.
+fn put_words<W: fmt::Write>(f: &mut fmt::Formatter<W>, what: &str, words: &[u32]) -> fmt::Result {
+    f.write_str(what)?;
+    for word in words {
+        write!(f, " {word:08X}")?;
     }
+    Ok(())
 }
 
-fn put_response<W: Write>(
-    line: &mut W,
-    deed: Deed,
-    response: Response,
-    out: &[u32],
-) -> fmt::Result {
-    match response {
-        Response::Declined(number) => write!(line, "declined {number}"),
-        Response::Drafted(handle) => {
-            let slot = handle.slot;
-            let ticket = handle.ticket;
-            write!(line, "draft {slot} {ticket}")
-        }
-        Response::Value(value) => put_value(line, value),
-        Response::Done => line.write_str(done_name(deed)),
-        Response::ReadOnly => line.write_str("read only"),
-        Response::Sent(_, count) => put_words(line, "posted", front(out, count)),
-        Response::Pending => line.write_str("pending"),
-        Response::Told(decision) => write!(line, "{decision}"),
-        Response::Opened => line.write_str("opened"),
-        Response::Staged => line.write_str("staged"),
-        Response::Sealed => line.write_str("sealed"),
-        Response::Idle => line.write_str("idle"),
-        Response::Wrote(count) => put_words(line, "words", front(out, count)),
-        Response::Woken(mode) => line.write_str(mode_name(mode)),
-    }
-}
-
-fn put_shown<W: Write>(line: &mut W, shown: &Shown) -> fmt::Result {
-    let mode = mode_name(shown.mode);
-    let version = shown.version;
-    let sealed = shown.sealed;
-    let staged = shown.staged;
-    let floor = shown.floor;
-    let last = shown.last;
-    let place = shown.place;
+fn put_shown<W: fmt::Write>(f: &mut fmt::Formatter<W>, shown: &Shown) -> fmt::Result {
+    let Shown {
+        mode,
+        version,
+        sealed,
+        staged,
+        floor,
+        last,
+        place,
+        known,
+        sites,
+        tickets,
+    } = shown;
     write!(
-        line,
+        f,
         "mode {mode} version {version} sealed {sealed} staged {staged}"
     )?;
-    write!(line, " floor {floor} last {last} place {place} known")?;
-    for known in shown.known.iter().take(shown.sites) {
-        write!(line, " {known}")?;
+    write!(f, " floor {floor} last {last} place {place} known")?;
+    for number in known.iter().take(*sites) {
+        write!(f, " {number}")?;
     }
-    let tickets = shown.tickets;
-    write!(line, " tickets {tickets}")
-}
-
-/// What a call at a site comes to.
-pub fn put_outcome<W: Write>(line: &mut W, deed: Deed, outcome: &Outcome) -> fmt::Result {
-    match outcome {
-        Outcome::Heard(response, out) => put_response(line, deed, *response, out),
-        Outcome::Seen(shown) => put_shown(line, shown),
-    }
+    write!(f, " tickets {tickets}")
 }

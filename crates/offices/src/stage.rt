@@ -1,56 +1,66 @@
 // What a scenario has come to: the group, what names stand for, and the words of each place.
+use crate::answers::Answer;
 use crate::making::make_group;
 use crate::reasons::Reason;
-use crate::tables::{Edit, Table};
 use group::any::AnySite;
 use group::group::Group;
 use script::asks::Source;
 use script::parts::read_words;
 use site::handles::Handle;
+use site::refusals::Refusal;
 use std::alloc::Global;
+use std::collections::BTreeMap;
 
+/// An edit under a name: a draft, or one that was posted.
+#[derive(Clone, Copy)]
+pub enum Edit {
+    Draft(Handle),
+    Posted(Handle),
+}
+
+// A name is the part of the scenario where it was given.
 #[derive(Drop)]
 pub struct Stage<'a> {
-    sites: u32,
+    pub heap: Global,
     // None where a group cannot have so many sites.
     pub group: Option<Group<AnySite>>,
-    // The sites whose line was played.
-    made: [bool; 8],
-    pub edits: Table<'a, Edit>,
-    pub messages: Table<'a, Vec<u32>>,
+    // Of each site of the group, whether its line was played.
+    made: Vec<bool>,
+    pub edits: BTreeMap<&'a [u8], Edit>,
+    pub messages: BTreeMap<&'a [u8], Vec<u32>>,
     places: Vec<Vec<u32>>,
 }
 
 impl<'a> Stage<'a> {
     /// A stage for a group of so many sites, which the text makes.
     pub fn new(heap: Global, sites: u32, text: &[u8]) -> anyhow::Result<Stage<'a>> {
+        let group = make_group(heap, sites, text)?;
+        let count = if group.is_some() { sites as usize } else { 0 };
         Ok(Stage {
-            sites,
-            group: make_group(heap, sites, text)?,
-            made: [false; 8],
-            edits: Table::new(heap),
-            messages: Table::new(heap),
+            heap,
+            group,
+            made: vec![in heap; false; count]?,
+            edits: BTreeMap::new(heap),
+            messages: BTreeMap::new(heap),
             places: Vec::new(heap),
         })
     }
 
     /// Whether the line that makes the site was played.
     pub fn is_made(&self, site: u32) -> bool {
-        let place = site as usize;
-        place < 8 && self.made[place]
+        self.made.get(site as usize) == Some(&true)
     }
 
-    /// Plays the line that makes the site: whether a group of so many has it.
-    pub fn make(&mut self, site: u32) -> Result<bool, Reason> {
-        let place = site as usize;
-        if self.group.is_none() || site >= self.sites || place >= 8 {
-            return Ok(false);
-        }
-        if self.made[place] {
+    /// Plays the line that makes the site.
+    pub fn make(&mut self, site: u32) -> Result<Answer<'a>, Reason> {
+        let Some(made) = self.made.get_mut(site as usize) else {
+            return Ok(Answer::Declined(Refusal::NotFresh));
+        };
+        if *made {
             return Err(Reason::MadeTwice);
         }
-        self.made[place] = true;
-        Ok(true)
+        *made = true;
+        Ok(Answer::Made)
     }
 
     /// The draft of that name.
@@ -70,30 +80,23 @@ impl<'a> Stage<'a> {
     }
 
     /// A copy of the words that a line hands in.
-    pub fn words_of(&self, heap: Global, source: Source) -> Result<Vec<u32>, Reason> {
+    pub fn words_of(&self, source: Source) -> Result<Vec<u32>, Reason> {
         match source {
-            Source::Named(name) => match self.messages.get(name) {
-                Some(words) => Ok(words.clone()?),
-                None => Err(Reason::NoWords),
-            },
-            Source::Spelt(text) => read_words(heap, text)?.ok_or(Reason::NoWords),
+            Source::Named(name) => Ok(self.messages.get(name).ok_or(Reason::NoWords)?.clone()?),
+            Source::Spelt(text) => read_words(self.heap, text)?.ok_or(Reason::NoWords),
         }
     }
 
     /// A copy of the words of a place.
     pub fn words_at(&self, place: u32) -> Result<Vec<u32>, Reason> {
-        if place == 0 {
-            return Err(Reason::NoPlace);
-        }
-        match self.places.get(place as usize - 1) {
-            Some(words) => Ok(words.clone()?),
-            None => Err(Reason::NoPlace),
-        }
+        let place = (place as usize).checked_sub(1).ok_or(Reason::NoPlace)?;
+        Ok(self.places.get(place).ok_or(Reason::NoPlace)?.clone()?)
     }
 
-    /// Gives the words the next place.
-    pub fn send(&mut self, words: Vec<u32>) -> Result<usize, Reason> {
+    /// Gives words the next place.
+    pub fn send(&mut self, source: Source) -> Result<Answer<'a>, Reason> {
+        let words = self.words_of(source)?;
         self.places.push(words)?;
-        Ok(self.places.len())
+        Ok(Answer::Place(self.places.len()))
     }
 }
