@@ -2,7 +2,6 @@
 #![tactic(auto)]
 
 mod answers;
-mod calls;
 mod making;
 mod play;
 mod reasons;

@@ -11,9 +11,11 @@ use site::refusals::Refusal;
 use std::alloc::Global;
 use std::collections::BTreeMap;
 
-/// An edit under a name: a draft, or one that was posted.
+mod calls;
+
+// An edit under a name: a draft, or one that was posted.
 #[derive(Clone, Copy)]
-pub enum Edit {
+enum Edit {
     Draft(Handle),
     Posted(Handle),
 }
@@ -23,11 +25,11 @@ pub enum Edit {
 pub struct Stage<'a> {
     pub heap: Global,
     // None where a group cannot have so many sites.
-    pub group: Option<Group<AnySite>>,
+    group: Option<Group<AnySite>>,
     // Of each site of the group, whether its line was played.
     made: Vec<bool>,
-    pub edits: BTreeMap<&'a [u8], Edit>,
-    pub messages: BTreeMap<&'a [u8], Vec<u32>>,
+    edits: BTreeMap<&'a [u8], Edit>,
+    messages: BTreeMap<&'a [u8], Vec<u32>>,
     places: Vec<Vec<u32>>,
 }
 
@@ -46,8 +48,8 @@ impl<'a> Stage<'a> {
         })
     }
 
-    /// Whether the line that makes the site was played.
-    pub fn is_made(&self, site: u32) -> bool {
+    // Whether the line that makes the site was played.
+    fn is_made(&self, site: u32) -> bool {
         self.made.get(site as usize) == Some(&true)
     }
 
@@ -63,32 +65,32 @@ impl<'a> Stage<'a> {
         Ok(Answer::Made)
     }
 
-    /// The draft of that name.
-    pub fn draft(&self, name: &[u8]) -> Result<Handle, Reason> {
+    // The draft of that name.
+    fn draft(&self, name: &[u8]) -> Result<Handle, Reason> {
         match self.edits.get(name) {
             Some(Edit::Draft(handle)) => Ok(*handle),
             _ => Err(Reason::NoDraft),
         }
     }
 
-    /// The posted edit of that name.
-    pub fn posted(&self, name: &[u8]) -> Result<Handle, Reason> {
+    // The posted edit of that name.
+    fn posted(&self, name: &[u8]) -> Result<Handle, Reason> {
         match self.edits.get(name) {
             Some(Edit::Posted(handle)) => Ok(*handle),
             _ => Err(Reason::NoPosted),
         }
     }
 
-    /// A copy of the words that a line hands in.
-    pub fn words_of(&self, source: Source) -> Result<Vec<u32>, Reason> {
+    // A copy of the words that a line hands in.
+    fn words_of(&self, source: Source) -> Result<Vec<u32>, Reason> {
         match source {
             Source::Named(name) => Ok(self.messages.get(name).ok_or(Reason::NoWords)?.clone()?),
             Source::Spelt(text) => read_words(self.heap, text)?.ok_or(Reason::NoWords),
         }
     }
 
-    /// A copy of the words of a place.
-    pub fn words_at(&self, place: u32) -> Result<Vec<u32>, Reason> {
+    // A copy of the words of a place.
+    fn words_at(&self, place: u32) -> Result<Vec<u32>, Reason> {
         let place = (place as usize).checked_sub(1).ok_or(Reason::NoPlace)?;
         Ok(self.places.get(place).ok_or(Reason::NoPlace)?.clone()?)
     }

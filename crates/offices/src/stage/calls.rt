@@ -4,9 +4,9 @@ ghost use Rattle.site.specs.Spoken.{asked};
 ghost use Rattle.group.specs.Groups.{heard_in, Lawful};
 ghost use Rattle.offices.specs.Playing.{sites_of};
 
+use super::{Edit, Stage};
 use crate::answers::{Answer, Heard};
 use crate::reasons::Reason;
-use crate::stage::{Edit, Stage};
 use group::any::AnySite;
 use group::group::Group;
 use script::asks::{Buffer, Deed};
