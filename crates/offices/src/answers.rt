@@ -120,7 +120,6 @@ fn put_shown<W: fmt::Write>(f: &mut fmt::Formatter<W>, shown: &Shown) -> fmt::Re
         last,
         place,
         known,
-        sites,
         tickets,
     } = shown;
     write!(
@@ -128,7 +127,7 @@ fn put_shown<W: fmt::Write>(f: &mut fmt::Formatter<W>, shown: &Shown) -> fmt::Re
         "mode {mode} version {version} sealed {sealed} staged {staged}"
     )?;
     write!(f, " floor {floor} last {last} place {place} known")?;
-    for number in known.iter().take(*sites) {
+    for number in known.as_slice() {
         write!(f, " {number}")?;
     }
     write!(f, " tickets {tickets}")
