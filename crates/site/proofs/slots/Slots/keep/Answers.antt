@@ -1,5 +1,5 @@
-use Rattle.std.proofs.Common.{◌<◌, length, sym, ap, ◌∙◌, arith}
-use Rattle.site.proofs.SlotLaws.{needed_after, needed_rest, needed_more, needed_end}
+use Rattle.std.proofs.Common.{◌<◌, length, sym, ◌∙◌, arith}
+use Rattle.site.proofs.SlotLaws.{needed_rest, needed_more, needed_end}
 use Rattle.site.proofs.slots.Slots.keep.Goals as goal
 use Rattle.site.proofs.slots.Slots.keep.Goals.{in-Open, in-Posted, in_default}
 
@@ -11,8 +11,8 @@ loop-slot-preserved c =
     let r = c.slot-item.result in
     let within : i < length xs = omega (arith, c.loop-slot-test.true, c.args.self.now.eight) in
     elim c.match-slot.branch [
-      | in-Open w ↦ (needed_more xs i r v _ within (w.least-is ∙ w.min-least.ensures ∙ ap (needed_after v) (sym w.in-Open.is)) ∙ c.loop-slot.invariant)
-      | in-Posted w ↦ (needed_more xs i r v _ within (w.least-is ∙ w.min-least-in-Posted.ensures ∙ ap (needed_after v) (sym w.in-Posted.is)) ∙ c.loop-slot.invariant)
+      | in-Open w ↦ (needed_more xs i r v _ within (rw w.in-Open.is (cc)) ∙ c.loop-slot.invariant)
+      | in-Posted w ↦ (needed_more xs i r v _ within (rw w.in-Posted.is (cc)) ∙ c.loop-slot.invariant)
       | in_default w ↦ (needed_more xs i r v _ within (w.least-is ∙ needed_rest v _ w.in_default.not-Open w.in_default.not-Posted) ∙ c.loop-slot.invariant)
     ]
 
