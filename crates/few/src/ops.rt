@@ -24,10 +24,13 @@ impl<T: Copy, const N: usize> Few<T, N> {
         ensures { few_items result ≡ take N items.now }
     {
         let count = items.len().min(N);
-        let mut few = Few::new(blank);
-        few.items[0..count].copy_from_slice(&items[0..count]);
-        few.count = count;
-        few
+        let mut memory = [blank; N];
+        let front = &mut memory[..];
+        front[0..count].copy_from_slice(&items[0..count]);
+        Few {
+            items: memory,
+            count,
+        }
     }
 
     /// What the question answers at 0, 1 and so on, as far as it answers and there is memory.

@@ -8,6 +8,7 @@ use Rattle.logs.specs.declared.table.Table.{Table}
 use Rattle.logs.specs.declared.pages.Pages.{Pages}
 use Rattle.logs.specs.LogModel.{Entry, HeldBounds, cost, total_cost, last_held}
 use Rattle.logs.specs.RingModel.{ring_items}
+use Rattle.logs.specs.Rings.{ring_room}
 use Rattle.logs.specs.RowModel.{row_entry}
 use Rattle.logs.specs.TableModel.{table_held}
 use Rattle.logs.specs.PageWords.{page_words, pages_words, entries_in}
@@ -33,7 +34,7 @@ module _ (t : Table) where
     write_cost_bound = omega arith;
     last_bound = omega (arith, table_last, t.high);
     capacity_bound = omega (arith, t.small);
-    affordable = omega (arith, flat_cost (table_held t).entries, table_long, t.rows.within);
+    affordable = omega (arith, flat_cost (table_held t).entries, table_long, ring_room t.rows);
     readable = t.sound;
   }
 
@@ -73,6 +74,6 @@ module _ (p : Pages) where
     write_cost_bound = omega arith;
     last_bound = omega (arith, pages_last, p.high);
     capacity_bound = omega (arith, p.small);
-    affordable = omega (arith, pages_cost, p.words.within);
+    affordable = omega (arith, pages_cost, ring_room p.words);
     readable = p.sound;
   }

@@ -1,4 +1,5 @@
 pub mod LogModel
+pub mod Window
 pub mod RingModel
 pub mod CountersModel
 pub mod RowModel
@@ -11,3 +12,5 @@ pub mod PackedModel
 pub mod Laws
 pub mod HolderBounds
 pub mod LogBounds
+pub mod Rings
+pub mod Windows

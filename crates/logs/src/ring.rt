@@ -1,16 +1,15 @@
-// A queue in memory that was handed over: elements are added at its end and removed from its front.
-ghost use Rattle.std.specs.Prelude.{◌≤◌, length};
-ghost use Rattle.std.specs.VecDeque.{deque_capacity};
-
-use std::collections::VecDeque;
+// A queue in a ring of memory: elements are added at its end and removed from its front. The library's `VecDeque` was tried:
+// it made a commit twice as slow (48 in place of 25 ns in `Flat`, 170 in place of 80 ns with 16 writes in `Packed`).
+ghost use Rattle.std.specs.Prelude.{◌≤◌, vec_len};
 
 pub mod ops;
 
 #[derive(Drop)]
 pub(crate) struct Ring<T> {
-    elements: VecDeque<T>,
-    // How many elements it takes.
-    size: usize,
-    ghost within: { length elements.items ≤ size },
-    ghost room: { size ≤ deque_capacity elements },
+    memory: Vec<T>,
+    // Where the first element is, and how many there are.
+    start: usize,
+    count: usize,
+    ghost begins: { start ≤ vec_len memory },
+    ghost room: { count ≤ vec_len memory },
 }

@@ -1,34 +1,46 @@
 // What a ring does.
-ghost use Rattle.std.specs.Prelude.{◌≡◌, ◌+◌, ◌<◌, ◌≤◌, min, [], ◌∷◌, ◌++◌, length, drop, vec_len, slice_index_or};
+ghost use Rattle.std.specs.Prelude.{◌≡◌, ◌+◌, ◌-◌, ◌<◌, ◌≤◌, min, [], ◌∷◌, ◌++◌, length, drop, vec_len, slice_index_or};
+ghost use Rattle.logs.specs.Window.{place_after};
 ghost use Rattle.logs.specs.RingModel.{ring_items, ring_size};
 
 use super::Ring;
-use std::collections::VecDeque;
+
+// The place that many further on, in a ring of that size.
+fn place_after(size: usize, start: usize, by: usize) -> usize
+    requires begins { start ≤ size }
+    requires within { by ≤ size }
+    ensures { result ≡ place_after size start by }
+{
+    let to_end = size - start;
+    if by < to_end { start + by } else { by - to_end }
+}
 
 impl<T: Copy> Ring<T> {
     // An empty ring in that memory, of which it uses at most the limit.
-    pub(crate) fn new(memory: Vec<T>, limit: usize) -> Ring<T>
+    pub(crate) fn new(mut memory: Vec<T>, limit: usize) -> Ring<T>
         ensures items { ring_items result ≡ [] }
         ensures size { ring_size result ≡ min (vec_len memory) limit }
     {
-        let size = memory.len().min(limit);
-        let mut elements = VecDeque::from_vec(memory);
-        elements.clear();
-        Ring { elements, size }
+        memory.truncate(limit);
+        Ring {
+            memory,
+            start: 0,
+            count: 0,
+        }
     }
 
     // How many elements there is memory for.
     pub(crate) fn size(&self) -> usize
         ensures { result ≡ ring_size self.now }
     {
-        self.size
+        self.memory.len()
     }
 
     pub(crate) fn len(&self) -> usize
         ensures value { result ≡ length (ring_items self.now) }
         ensures bound { result ≤ ring_size self.now }
     {
-        self.elements.len()
+        self.count
     }
 
     // The element at that place, counted from the front.
@@ -36,16 +48,19 @@ impl<T: Copy> Ring<T> {
         requires { place < length (ring_items self.now) }
         ensures { result.now ≡ slice_index_or (ring_items self.now) place result.now }
     {
-        &self.elements[place]
+        &self.memory[place_after(self.memory.len(), self.start, place)]
     }
 
     // Adds an element at the end.
     pub(crate) fn push(&mut self, item: T)
         requires { length (ring_items self.old) < ring_size self.old }
         ensures items { ring_items self.new ≡ ring_items self.old ++ (item ∷ []) }
+        ensures len { length (ring_items self.new) ≡ length (ring_items self.old) + 1 }
         ensures size { ring_size self.new ≡ ring_size self.old }
     {
-        self.elements.push_back_reserved(item);
+        let end = place_after(self.memory.len(), self.start, self.count);
+        self.memory[end] = item;
+        self.count += 1;
     }
 
     // Adds elements at the end.
@@ -65,6 +80,7 @@ impl<T: Copy> Ring<T> {
         ensures items { ring_items self.new ≡ drop count (ring_items self.old) }
         ensures size { ring_size self.new ≡ ring_size self.old }
     {
-        drop(self.elements.drain(..count));
+        self.start = place_after(self.memory.len(), self.start, count);
+        self.count -= count;
     }
 }

@@ -1,5 +1,6 @@
 use Rattle.std.proofs.Common.{◌-◌, min, refl, ap, ◌∙◌, arith}
 use Rattle.logs.specs.HolderBounds.{pages_last}
+use Rattle.logs.specs.Rings.{ring_room}
 use Rattle.logs.proofs.Laid.{words_fewer, kept_high, kept_near, kept_laid, kept_begun, kept_sound, kept_held}
 use Rattle.logs.proofs.pages.ops.PagesHolder.trim.Goals as goal
 
@@ -24,7 +25,7 @@ overflow_add-self c =
       p.small,
       c.words_of-length.ensures,
       words_fewer p (c.min-bound.result - p.floor),
-      p.words.within,
+      ring_room p.words,
     )
 
 pub invariant_of-self : goal.invariant_of-self
