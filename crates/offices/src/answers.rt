@@ -87,7 +87,7 @@ impl fmt::Display for Heard<'_> {
     }
 }
 
-// What a call is called that was carried out and has nothing else to say.
+// What a call is called that was carried out and has nothing else to say: the one answer whose text is the call's.
 fn done_name(deed: Deed) -> &'static str {
     match deed {
         Deed::Write(_, _, _) => "written",

@@ -84,6 +84,7 @@ fn make_chains(heap: Global, records: Vec<Record>) -> anyhow::Result<Chains> {
         .context("a store was not made")
 }
 
+// The logs take memory of their own kinds by calls of their own: one function for both would be handed both as parameters.
 fn make_flat(heap: Global, sites: u32, room: u32) -> anyhow::Result<Flat> {
     let memory = vec![in heap; FlatEntry::new(); (room as usize).min(MOST_ENTRIES)]?;
     Flat::new(sites, memory).ok().context("a log was not made")

@@ -50,7 +50,7 @@ fn keep_written(out: &mut Vec<u32>, response: Response) {
 }
 
 impl<'a> Stage<'a> {
-    // The call that is asked for, by its numbers; none for a question.
+    // The call that is asked for, by its numbers; none for a question. A match, since each call has other arguments.
     fn request(&self, deed: Deed) -> Result<Option<Request>, Reason> {
         let request = match deed {
             Deed::Begin(_) => Request::Begin,
