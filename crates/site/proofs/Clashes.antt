@@ -1,24 +1,39 @@
 -- A walk over the entries above a version, and over the writes of one.
-use Rattle.std.proofs.Common.{◌≡◌, ℕ, zero, suc, ◌+◌, ◌-◌, ◌<◌, ◌≤◌, max, Bool, cond, ◌||◌, List, [], ◌∷◌, map, length, get_or, drop, Some, None, Option, sym, refl, ap, ◌∙◌, add-one, arith}
+use Rattle.std.proofs.Common.{◌≡◌, ℕ, zero, suc, ◌+◌, ◌-◌, ◌<◌, ◌≤◌, max, Bool, false, cond, ◌||◌, List, [], ◌∷◌, map, length, get_or, drop, Some, None, Option, sym, refl, ap, ◌∙◌, add-one, arith}
 use lib.ListN.{length-map}
 use Rattle.std.specs.Option.{option_map}
-use Rattle.std.specs.List.{slice_get, list_any, find, range_with_len}
+use Rattle.std.specs.List.{slice_get, find, range_with_len}
 use Rattle.std.proofs.lemmas.List.{at_drop_more, at_drop_all, get_or-map}
 use Rattle.std.proofs.lemmas.Option.{slice_get-get_or}
 use Rattle.std.proofs.lemmas.Bool.{lt-ltb}
 use Rattle.words.specs.declared.changes.Write.{Write}
 use Rattle.account.specs.Account.{touches, meets, lowest_clash}
-use Rattle.logs.specs.LogModel.{LogModel, last_version, entry_at, an_entry}
+use Rattle.logs.specs.LogModel.{LogModel, Entry, last_version, entry_at, an_entry, write_of}
 use Rattle.site.specs.Calls.{writes_in}
 use Rattle.site.specs.Certify.{as_commit, clash_above}
 
--- whether two lists have an item in common, in the library's words
-abbrev pub is_touched : List Write → Write → Bool
-is_touched m w = touches w.item m
+-- the writes from number k on, by what the log says is there
+meets_from : (l m : List Write) (k : ℕ) (w : Write) (b : Bool) → slice_get l k ≡ Some w → touches w.item m ≡ b →
+    meets (drop k l) m ≡ (b || meets (drop (suc k) l) m)
+meets_from [] m k w b h e = absurd (let z : ◌≡◌ {A = ℕ} 0 1 = cc in omega arith)
+meets_from (x ∷ l) m zero w b h e = let f : x ≡ w = cc in ap (λ y. touches y.item m || meets l m) f ∙ ap (λ c. c || meets l m) e
+meets_from (x ∷ l) m (suc k) w b h e = meets_from l m k w b h e
 
-pub any_meets : (l m : List Write) → list_any (is_touched m) l ≡ meets l m
-any_meets [] m = refl
-any_meets (w ∷ l) m = ap (λ b. touches w.item m || b) (any_meets l m)
+meets_end : (l m : List Write) (k : ℕ) → slice_get l k ≡ None → meets (drop k l) m ≡ false
+meets_end [] m zero h = refl
+meets_end [] m (suc k) h = refl
+meets_end (x ∷ l) m zero h = absurd (let z : ◌≡◌ {A = ℕ} 0 1 = cc in omega arith)
+meets_end (x ∷ l) m (suc k) h = meets_end l m k h
+
+pub meets_more : (o : Option Entry) (m : List Write) (k : ℕ) (w : Write) (b : Bool) → write_of o k ≡ Some w → touches w.item m ≡ b →
+    meets (drop k (writes_in o)) m ≡ (b || meets (drop (k + 1) (writes_in o)) m)
+meets_more None m k w b h e = absurd (let z : ◌≡◌ {A = ℕ} 0 1 = cc in omega arith)
+meets_more (Some x) m k w b h e = meets_from x.writes m k w b h e ∙ ap (λ n. b || meets (drop n x.writes) m) (sym (add-one k))
+
+pub meets_done : (o : Option Entry) (m : List Write) (k : ℕ) → write_of o k ≡ None → meets (drop k (writes_in o)) m ≡ false
+meets_done None m zero h = refl
+meets_done None m (suc k) h = refl
+meets_done (Some x) m k h = meets_end x.writes m k h
 
 module _ (m : LogModel) (v : ℕ) (above : m.floor ≤ v) where
   -- the entries above version v, by the next one

@@ -5,20 +5,23 @@ ghost use Rattle.logs.specs.LogModel.{last_version, entry_at};
 ghost use Rattle.site.specs.Calls.{writes_in};
 ghost use Rattle.site.specs.Certify.{clash_above};
 
-use crate::gather::gather_entry;
 use account::certify::has_item;
 use logs::api::Log;
 use words::changes::Write;
 
-// Whether the entry of a version writes an item of these.
+// Whether the entry of a version writes an item of these. It goes by the log's own answers up to the first that does.
 fn does_meet<L: Log>(log: &L, version: u32, writes: &[Write]) -> bool
     ensures { result ≡ meets (writes_in (entry_at (L.Log.model log.now) version)) writes.now }
 {
-    let entry = gather_entry(log, version);
-    entry
-        .as_slice()
-        .iter()
-        .any(|write| has_item(writes, write.item))
+    for number in 0..16 {
+        let Some(write) = log.write(version, number) else {
+            return false;
+        };
+        if has_item(writes, write.item) {
+            return true;
+        }
+    }
+    false
 }
 
 // The lowest version above the snapshot whose entry writes an item of these.
