@@ -5,6 +5,7 @@ use std::alloc::Global;
 use std::test::Fail;
 use words::messages::message_kind;
 
+// The numbers that a program in C is told.
 const VOID: u32 = 0;
 
 const EDIT: u32 = 1;
