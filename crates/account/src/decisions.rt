@@ -40,6 +40,7 @@ pub enum Fault {
     NoMemory,
 }
 
+// By hand, since a derived From has no contract, and the accountant's clauses need to know which fault it is.
 impl From<AllocError> for Fault {
     ghost from_gives = { λ _ r. r ≡ NoMemory };
 

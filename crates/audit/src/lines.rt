@@ -18,6 +18,7 @@ pub enum Reason {
     NoMemory,
 }
 
+// By hand, since a derived From has no contract, and the parser's clauses need to know which reason it is.
 impl From<AllocError> for Reason {
     ghost from_gives = { λ _ r. r ≡ NoMemory };
 

@@ -1,4 +1,4 @@
-// A call that changes a log.
+// A call that changes a log, as a value, since it is made at two logs of different types.
 use crate::random::Numbers;
 use logs::api::{Declined, Log};
 use logs::heads::NewEntry;

@@ -15,6 +15,7 @@ pub enum Slot {
     Decided { ticket: u32, decision: Decision },
 }
 
+/// A site has eight slots, and takes no memory for them after it is made.
 #[derive(Drop)]
 pub struct Slots {
     table: [Slot; 8],

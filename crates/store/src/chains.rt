@@ -16,7 +16,8 @@ pub struct Chains {
     records: Vec<Record>,
     // The slots of the sealed records in the order of sealing, then those of the staged ones, then the free ones.
     slots: Vec<u16>,
-    // At the slot of each sealed record, the link to the one before it in its chain.
+    // At the slot of each sealed record, the link to the one before it in its chain. It stands beside the records, whose memory
+    // is the caller's.
     next: Vec<u16>,
     heads: [u16; CHAINS],
     tally: Tally,

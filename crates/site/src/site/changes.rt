@@ -81,6 +81,7 @@ impl<S: Store, L: Log> Site<S, L> {
         let version = self.store.version();
         match self.log.write(version + 1, done) {
             Some(write) => {
+                // There is space: it was looked at when the version was opened.
                 let _ = self.store.stage(write.item, write.change);
                 self.change = Some(done + 1);
                 Stepped::Staged

@@ -51,6 +51,7 @@ fn mark_replaced(row: &[Record], to: u32, gone: &mut [bool])
     requires marks { length row.now ≤ length gone.old }
     ensures { gone.new ≡ replaced to row.now ++ drop (length row.now) gone.old }
 {
+    // In arrays, since a prune may not fail for want of memory.
     let slots = number_slots();
     let mut next = [0; MOST_RECORDS];
     let mut heads = [0; CHAINS];
