@@ -3,7 +3,8 @@ ghost use Rattle.std.specs.Prelude.{◌≡◌, ◌≤◌, ⊤, length};
 
 use std::alloc::AllocError;
 
-/// A list of at most `N` items, where no call may fail for want of memory and a copy is wanted, so that a `Vec` does not do. Its memory holds `N` of them, of which the first `count` are the list's.
+/// A list of at most `N` items. Its memory holds `N` of them, of which the first `count` are the list's. It is for places where
+/// no call may fail for want of memory and a copy is wanted, so that a `Vec` does not do.
 pub struct Few<T, const N: usize> {
     pub(crate) items: [T; N],
     pub(crate) count: usize,

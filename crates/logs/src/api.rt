@@ -42,7 +42,7 @@ pub trait Log {
     fn capacity(&self) -> u32
         ensures { result ≡ (model self.now).capacity };
 
-    /// The two constants. The model has them too, and what is declined for lack of space is stated with them.
+    /// The two constants, by a method that ties them to the model, with which is stated what is declined for lack of space.
     fn costs(&self) -> (u32, u32)
         ensures { result ≡ ((model self.now).entry_cost, (model self.now).write_cost) };
 

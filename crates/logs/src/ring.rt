@@ -1,5 +1,5 @@
 // A queue in a ring of memory: elements are added at its end and removed from its front. The library's `VecDeque` was tried:
-// it made a commit twice as slow (48 in place of 25 ns in `Flat`, 170 in place of 80 ns with 16 writes in `Packed`).
+// a commit takes a third longer over it (48 in place of 35 ns in `Flat`, 170 in place of 130 ns with 16 writes in `Packed`).
 ghost use Rattle.std.specs.Prelude.{◌≤◌, vec_len};
 
 pub mod ops;

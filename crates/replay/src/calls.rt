@@ -5,8 +5,8 @@ ghost use Rattle.replay.specs.Calls.{answer_of, after_call};
 use store::api::{NoSpace, Store};
 use words::changes::Change;
 
-// A call as a value, since one list of them, drawn at random, is made at two stores: a closure would hold one store's type.
-/// A call that a store answers or that changes it.
+/// A call that a store answers or that changes it. It is a value, since one list of them, drawn at random, is made at two
+/// stores: a closure would hold one store's type.
 #[derive(Clone, Copy)]
 pub enum Call {
     Read { item: u32, at: u32 },

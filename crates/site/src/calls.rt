@@ -18,7 +18,7 @@ use store::api::Store;
 use words::changes::Write;
 
 /// A call in numbers. The words that a delivery or a take hands in, and the buffer that a post, a report or a page writes
-/// to, stand beside it. A value and no closure, since a call is recorded, and asked about more than once.
+/// to, stand beside it, being the caller's memory. A value and no closure, since a call is recorded, and asked about more than once.
 #[derive(Clone, Copy)]
 pub enum Request {
     Begin,

@@ -3,6 +3,7 @@
 // `site` has the calls, a room for each kind. `modes` decides by mode and event together, `refusals` names why a call is
 // declined, `handles` has drafts and posted edits, `edits` the writes that an edit gathers, `slots` the eight places where
 // edits are held, `home` the site's number. `certify` looks for conflicts, `gather` reads writes, `spelling` writes words.
+// `calls` is a site as others see it: one call, by its model.
 #![tactic(auto)]
 
 pub mod calls;

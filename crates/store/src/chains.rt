@@ -14,7 +14,8 @@ pub mod ops;
 #[derive(Drop)]
 pub struct Chains {
     records: Vec<Record>,
-    // The slots of the sealed records in the order of sealing, then those of the staged ones, then the free ones.
+    // The slots of the sealed records in the order of sealing, then those of the staged ones, then the free ones: a prune moves
+    // these numbers and no record, and its links stand.
     slots: Vec<u16>,
     // At the slot of each sealed record, the link to the one before it in its chain. It stands beside the records, whose memory
     // is the caller's.

@@ -51,8 +51,7 @@ impl Linked<'_> {
         None
     }
 
-    // Marks each linked record that a prune to `to` removes: a later one of its item has a version of at most `to`. By places,
-    // since a place has a slot and a mark, and is where the walk stops.
+    // Marks each linked record that a prune to `to` removes: a later one of its item has a version of at most `to`.
     pub(crate) fn mark_replaced(&self, to: u32, gone: &mut [bool])
         requires { self.now.count ≤ length gone.old }
         ensures { gone.new ≡ replaced to (take self.now.count (laid self.now.row.records.now self.now.row.slots.now)) ++ drop self.now.count gone.old }

@@ -1,10 +1,10 @@
-#![tactic(auto)]
-
 // The word format of Scene Share: messages and pages as 32-bit words, read and written.
 //
-// `changes` has the writes, `messages` and `pages` read what words say, `encode` writes them.
-// `bits`, `limits` and `scan` are below these: the layout of one word, how large numbers and groups are, and a reader that
-// goes through words.
+// `changes` has the writes, `messages` and `pages` read what words say, `encode` writes those of a group and `spell` pages of
+// any numbers that words can hold, both by `put`. `bits`, `limits` and `scan` are below these: the layout of one word, how
+// large numbers and groups are, and a reader that goes through words.
+#![tactic(auto)]
+
 pub mod bits;
 pub mod changes;
 pub mod encode;

@@ -9,8 +9,8 @@ use crate::bits::{Kind, make_head, make_word};
 use crate::changes::{Write, change_bits};
 use crate::encode::{ClosingParts, EntryParts, Refusal};
 
-// The words of the writes, from the buffer's first word on. They are put by index, here and below: after `iter_mut` or
-// `chunks_exact_mut` a proof knows how long the buffer is, and none of its words.
+// The words of the writes, from the buffer's first word on. They are put by index, here and below: where what is written is
+// zipped to `iter_mut` or to `chunks_exact_mut`, a proof knows how long the buffer is afterwards, and none of its words.
 fn put_writes(out: &mut [u32], writes: &[Write])
     requires room { 2 * length writes.now ≤ length out.old }
     requires fit { all_fit writes.now ≡ true }

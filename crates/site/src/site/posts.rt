@@ -21,8 +21,8 @@ pub struct Sent {
     pub count: usize,
 }
 
-/// What is known of a posted edit: nothing yet, with the posted edit given back, or its decision. An option could not give
-/// it back.
+/// What is known of a posted edit: nothing yet, with the posted edit given back, or its decision. Neither is an error, so it is
+/// no result, and an option could not give the edit back.
 pub enum Answered {
     Pending(Posted),
     Decided(Decision),

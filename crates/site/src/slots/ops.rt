@@ -1,4 +1,4 @@
-// What is asked of the slots, and the one change to them.
+// What is asked of the slots, and the changes to them: one slot put, and posted edits settled.
 ghost use Rattle.std.specs.Prelude.{◌≡◌, ◌<◌, T, Some, map, replicate, IfSome, OnSome, slice_set};
 ghost use Rattle.site.specs.Slots.{empty, is_empty, slot_model, slots_model, lowest_empty, all_empty, open_edit, edit_of, has_posted, held_decision, least_needed, own_ticket, settled};
 ghost use Rattle.std.specs.List.{slice_get};

@@ -112,6 +112,7 @@ impl Store for Chains {
     }
 
     fn prune(&mut self, to: u32) {
+        // In an array, since a prune may not fail for want of memory.
         let mut gone = [false; MOST_RECORDS];
         self.sealed().mark_replaced(to, &mut gone);
         let used = self.tally.sealed + self.tally.staged;

@@ -115,6 +115,7 @@ impl Store for Journal {
 
     fn prune(&mut self, to: u32) {
         let sealed = self.tally.sealed;
+        // In an array, since a prune may not fail for want of memory.
         let mut gone = [false; MOST_RECORDS];
         mark_replaced(&self.records.as_slice()[0..sealed], to, &mut gone);
         let left = compact(&mut self.records, &gone[0..sealed + self.tally.staged]);
