@@ -5,16 +5,19 @@ ghost use Rattle.audit.specs.Lines.{group_line, is_dash, Parsed};
 ghost use Rattle.audit.specs.declared.lines.Reason.TheVariants.{NoMemory};
 
 use std::alloc::{AllocError, AllocFailed, Global};
-use std::fmt;
 use text::names::same;
 use text::numbers::{decimal, hex_word};
 use text::split::{Words, is_blank, next_word};
+use thiserror::Error;
 
 /// Why a line is not understood.
-#[derive(Clone, Copy, PartialEq, Eq, Debug)]
+#[derive(Clone, Copy, PartialEq, Eq, Debug, Error)]
 pub enum Reason {
+    #[error("the list begins with 'group' and the number of sites")]
     NoGroup,
+    #[error("a message is words of eight upper-case hexadecimal digits, or '-' for none")]
     NoWord,
+    #[error("no memory is left")]
     NoMemory,
 }
 
@@ -32,18 +35,6 @@ impl<T: Drop> From<AllocFailed<T>> for Reason {
 
     fn from(_refused: AllocFailed<T>) -> Reason {
         Reason::NoMemory
-    }
-}
-
-impl fmt::Display for Reason {
-    fn fmt<W: fmt::Write>(&self, f: &mut fmt::Formatter<W>) -> fmt::Result {
-        f.write_str(match *self {
-            Reason::NoGroup => "the list begins with 'group' and the number of sites",
-            Reason::NoWord => {
-                "a message is words of eight upper-case hexadecimal digits, or '-' for none"
-            }
-            Reason::NoMemory => "no memory is left",
-        })
     }
 }
 

@@ -1,33 +1,24 @@
 // Why a line is not understood.
-use std::fmt;
+use thiserror::Error;
 
-#[derive(Clone, Copy, PartialEq, Eq, Debug)]
+#[derive(Clone, Copy, PartialEq, Eq, Debug, Error)]
 pub enum Fault {
+    #[error("a line begins with 'group', 'site', 'send' or the number of a site")]
     NoCall,
+    #[error("there is no such call")]
     NoVerb,
+    #[error("a number from 0 to 4294967295 is missing")]
     NoNumber,
+    #[error("a name is missing: a lower-case letter, then letters and digits")]
     NoName,
+    #[error("a value of 32 bits or 'gone' is missing")]
     NoValue,
+    #[error("a store is 'journal' or 'chains'")]
     NoStore,
+    #[error("a log is 'flat' or 'packed'")]
     NoLog,
+    #[error("a name or words of eight upper-case hexadecimal digits are missing")]
     NoWords,
+    #[error("there is more on the line than the call takes")]
     MoreWords,
-}
-
-impl fmt::Display for Fault {
-    fn fmt<W: fmt::Write>(&self, f: &mut fmt::Formatter<W>) -> fmt::Result {
-        f.write_str(match *self {
-            Fault::NoCall => {
-                "a line begins with 'group', 'site', 'send' or the number of a site"
-            }
-            Fault::NoVerb => "there is no such call",
-            Fault::NoNumber => "a number from 0 to 4294967295 is missing",
-            Fault::NoName => "a name is missing: a lower-case letter, then letters and digits",
-            Fault::NoValue => "a value of 32 bits or 'gone' is missing",
-            Fault::NoStore => "a store is 'journal' or 'chains'",
-            Fault::NoLog => "a log is 'flat' or 'packed'",
-            Fault::NoWords => "a name or words of eight upper-case hexadecimal digits are missing",
-            Fault::MoreWords => "there is more on the line than the call takes",
-        })
-    }
 }
