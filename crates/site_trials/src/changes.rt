@@ -5,6 +5,7 @@ use crate::turns::Turn;
 use account::decisions::Decision;
 use site::calls::{Request, Response};
 use site::modes::Mode;
+use site::refusals::Refusal;
 use site::site::changes::Stepped;
 use std::test::Fail;
 
@@ -26,7 +27,7 @@ fn version_is_opened_where_its_writes_just_fit(rt: HostRuntime) -> Result<(), Fa
             Turn::Asks(Request::Step, Response::Stepped(Stepped::Opened)),
             Turn::Asks(Request::Step, Response::Stepped(Stepped::Staged)),
             Turn::Asks(Request::Step, Response::Stepped(Stepped::Sealed)),
-            Turn::Declines(Request::Step, 14),
+            Turn::Declines(Request::Step, Refusal::StoreFull),
             Turn::Looks(1, Some(11)),
             Turn::Does(Request::Prune),
             Turn::Asks(Request::Step, Response::Stepped(Stepped::Opened)),
@@ -53,7 +54,7 @@ fn version_of_two_writes_is_declined_where_one_would_fit(rt: HostRuntime) -> Res
             Turn::Asks(Request::Step, Response::Stepped(Stepped::Opened)),
             Turn::Asks(Request::Step, Response::Stepped(Stepped::Staged)),
             Turn::Asks(Request::Step, Response::Stepped(Stepped::Sealed)),
-            Turn::Declines(Request::Step, 14),
+            Turn::Declines(Request::Step, Refusal::StoreFull),
             Turn::Looks(3, Some(30)),
         ],
     )

@@ -22,6 +22,8 @@ mod places;
 #[cfg(test)]
 mod posts;
 #[cfg(test)]
+mod refusals;
+#[cfg(test)]
 mod said;
 #[cfg(test)]
 mod seen;

@@ -1,10 +1,11 @@
 // Making a site: the number is in range, and the store and the log are fresh.
 use crate::pairs::{Before, Making, made_on_both};
+use site::refusals::Refusal;
 use std::test::Fail;
 
 #[test]
 fn number_is_below_the_size_of_the_group(rt: HostRuntime) -> Result<(), Fail> {
-    for (number, refusal) in [(0, None), (1, None), (2, Some(20))] {
+    for (number, refusal) in [(0, None), (1, None), (2, Some(Refusal::NotFresh))] {
         let before = Before::Nothing;
         let making = Making {
             number,
@@ -29,7 +30,7 @@ fn store_and_log_are_fresh(rt: HostRuntime) -> Result<(), Fail> {
         let making = Making {
             number: 0,
             before,
-            refusal: Some(20),
+            refusal: Some(Refusal::NotFresh),
         };
         made_on_both(&rt, rt.alloc(), making, 2, 2, &[])?;
     }

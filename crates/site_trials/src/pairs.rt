@@ -5,6 +5,7 @@ use logs::flat::Flat;
 use logs::heads::NewEntry;
 use logs::packed::Packed;
 use logs::row::FlatEntry;
+use site::refusals::Refusal;
 use site::site::Site;
 use std::alloc::Global;
 use std::process::Abort;
@@ -53,12 +54,12 @@ pub(crate) enum Before {
     Known,
 }
 
-// How a site is made: its number, what was done before, and the refusal's number if none is to be made.
+// How a site is made: its number, what was done before, and the refusal if none is to be made.
 #[derive(Clone, Copy)]
 pub(crate) struct Making {
     pub(crate) number: u32,
     pub(crate) before: Before,
-    pub(crate) refusal: Option<u32>,
+    pub(crate) refusal: Option<Refusal>,
 }
 
 fn spoil<S: Store, L: Log>(store: &mut S, log: &mut L, before: Before) {
@@ -113,7 +114,7 @@ fn drive<S: Store + Drop, L: Log + Drop>(
             play(rt, pair, &mut site, turns)
         }
         Err(back) => {
-            assert_eq!(rt; Some(back.refusal.number()), making.refusal, "{pair}");
+            assert_eq!(rt; Some(back.refusal), making.refusal, "{pair}");
             assert_eq!(rt; numbers(&back.store, &back.log), was, "{pair}");
         }
     }

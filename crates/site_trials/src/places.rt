@@ -7,6 +7,7 @@ use crate::spelt::Words;
 use crate::turns::Turn;
 use account::decisions::Decision;
 use site::calls::{Request, Response};
+use site::refusals::Refusal;
 use site::site::changes::Stepped;
 use std::test::Fail;
 
@@ -18,14 +19,14 @@ fn only_the_next_place_is_taken(rt: HostRuntime) -> Result<(), Fail> {
         8,
         8,
         &[
-            Turn::Misplaces(0, Words::None, 11),
-            Turn::Misplaces(2, Words::None, 12),
-            Turn::Misplaces(268_435_456, Words::None, 12),
-            Turn::Misplaces(4_294_967_295, Words::None, 12),
+            Turn::Misplaces(0, Words::None, Refusal::PlaceDecided),
+            Turn::Misplaces(2, Words::None, Refusal::PlaceAhead),
+            Turn::Misplaces(268_435_456, Words::None, Refusal::PlaceAhead),
+            Turn::Misplaces(4_294_967_295, Words::None, Refusal::PlaceAhead),
             Turn::Delivers(1, Words::None, Decision::Void),
-            Turn::Misplaces(0, Words::None, 11),
-            Turn::Misplaces(1, Words::None, 11),
-            Turn::Misplaces(3, Words::None, 12),
+            Turn::Misplaces(0, Words::None, Refusal::PlaceDecided),
+            Turn::Misplaces(1, Words::None, Refusal::PlaceDecided),
+            Turn::Misplaces(3, Words::None, Refusal::PlaceAhead),
             Turn::Delivers(2, Words::None, Decision::Void),
         ],
     )
@@ -42,14 +43,14 @@ fn commit_is_declined_where_the_log_is_full(rt: HostRuntime) -> Result<(), Fail>
         &[
             Turn::Delivers(1, Words::Edit(1, 1, 0, 1, 5), Decision::Commit(1)),
             Turn::Delivers(2, Words::Edit(1, 2, 1, 2, 6), Decision::Commit(2)),
-            Turn::Misplaces(3, Words::Edit(1, 3, 2, 3, 7), 13),
-            Turn::Misplaces(2, Words::Edit(1, 3, 2, 3, 7), 11),
-            Turn::Misplaces(4, Words::Edit(1, 3, 2, 3, 7), 12),
+            Turn::Misplaces(3, Words::Edit(1, 3, 2, 3, 7), Refusal::LogFull),
+            Turn::Misplaces(2, Words::Edit(1, 3, 2, 3, 7), Refusal::PlaceDecided),
+            Turn::Misplaces(4, Words::Edit(1, 3, 2, 3, 7), Refusal::PlaceAhead),
             Turn::Delivers(3, Words::Edit(1, 3, 0, 1, 7), Decision::Conflict(1)),
             Turn::Delivers(4, Words::Report(0, 2), Decision::Noted),
             Turn::Delivers(5, Words::Report(1, 2), Decision::Noted),
             Turn::Delivers(6, Words::None, Decision::Void),
-            Turn::Misplaces(7, Words::Edit(1, 3, 2, 3, 7), 13),
+            Turn::Misplaces(7, Words::Edit(1, 3, 2, 3, 7), Refusal::LogFull),
             Turn::CatchesUp,
             Turn::Does(Request::Trim),
             Turn::Delivers(7, Words::Edit(1, 3, 2, 3, 7), Decision::Commit(3)),
@@ -69,7 +70,7 @@ fn declined_commit_leaves_its_posted_edit_pending(rt: HostRuntime) -> Result<(),
             Turn::Begins(0, 1),
             Turn::Sets(FIRST, 2, 6),
             Turn::Asks(Request::Post(FIRST), Response::Sent(FIRST, 5)),
-            Turn::Misplaces(2, Words::Edit(0, 1, 0, 2, 6), 13),
+            Turn::Misplaces(2, Words::Edit(0, 1, 0, 2, 6), Refusal::LogFull),
             Turn::Asks(Request::Outcome(FIRST), Response::Pending),
         ],
     )
@@ -114,7 +115,7 @@ fn edit_is_too_old_by_the_horizon_and_not_by_the_floor(rt: HostRuntime) -> Resul
             Turn::Delivers(8, Words::Report(0, 4), Decision::Noted),
             Turn::Delivers(9, Words::Report(1, 4), Decision::Noted),
             Turn::Does(Request::Trim),
-            Turn::Declines(Request::Page(0), 19),
+            Turn::Declines(Request::Page(0), Refusal::VersionTrimmed),
             Turn::Delivers(10, Words::Edit(1, 5, 1, 5, 9), Decision::TooOld),
             Turn::Delivers(11, Words::Edit(1, 5, 3, 5, 9), Decision::TooOld),
             Turn::Delivers(12, Words::Edit(1, 5, 4, 5, 9), Decision::Commit(5)),
@@ -138,7 +139,7 @@ fn edit_at_the_floor_is_decided_by_the_commits_above_it(rt: HostRuntime) -> Resu
             Turn::Delivers(4, Words::Report(1, 1), Decision::Noted),
             Turn::CatchesUp,
             Turn::Does(Request::Trim),
-            Turn::Declines(Request::Page(0), 19),
+            Turn::Declines(Request::Page(0), Refusal::VersionTrimmed),
             Turn::Delivers(5, Words::Edit(1, 3, 0, 3, 7), Decision::TooOld),
             Turn::Delivers(6, Words::Edit(1, 3, 1, 2, 7), Decision::Conflict(2)),
             Turn::Delivers(7, Words::Edit(1, 3, 1, 1, 7), Decision::Commit(3)),

@@ -6,6 +6,7 @@ use crate::turns::Turn;
 use account::decisions::Decision;
 use site::calls::{Request, Response};
 use site::handles::Handle;
+use site::refusals::Refusal;
 use std::test::Fail;
 
 #[test]
@@ -37,10 +38,10 @@ fn drafts_that_were_posted_are_declined(rt: HostRuntime) -> Result<(), Fail> {
             Turn::Begins(0, 1),
             Turn::Sets(FIRST, 1, 10),
             Turn::Asks(Request::Post(FIRST), Response::Sent(FIRST, 5)),
-            Turn::Declines(Request::Read(FIRST, 1), 6),
-            Turn::Keeps(FIRST, 1, 11, 6),
-            Turn::Declines(Request::Post(FIRST), 6),
-            Turn::Cramped(Request::Post(FIRST), 0, 6),
+            Turn::Declines(Request::Read(FIRST, 1), Refusal::NotYours),
+            Turn::Keeps(FIRST, 1, 11, Refusal::NotYours),
+            Turn::Declines(Request::Post(FIRST), Refusal::NotYours),
+            Turn::Cramped(Request::Post(FIRST), 0, Refusal::NotYours),
             Turn::Does(Request::GiveUp(FIRST)),
             Turn::Asks(Request::Outcome(FIRST), Response::Pending),
         ],
@@ -57,7 +58,7 @@ fn draft_with_nothing_written_is_read_only(rt: HostRuntime) -> Result<(), Fail> 
         &[
             Turn::Begins(0, 1),
             Turn::Asks(Request::Post(FIRST), Response::ReadOnly),
-            Turn::Declines(Request::Post(FIRST), 6),
+            Turn::Declines(Request::Post(FIRST), Refusal::NotYours),
             Turn::Begins(0, 2),
         ],
     )
@@ -72,7 +73,7 @@ fn report_of_keep_needs_room_for_two_words(rt: HostRuntime) -> Result<(), Fail> 
         8,
         &[
             Turn::Writes(Request::Report, Words::Report(0, 0)),
-            Turn::Cramped(Request::Report, 0, 10),
+            Turn::Cramped(Request::Report, 0, Refusal::ShortBuffer),
             Turn::Delivers(1, Words::Edit(1, 1, 0, 1, 10), Decision::Commit(1)),
             Turn::Begins(0, 1),
             Turn::Sets(FIRST, 2, 20),
@@ -97,20 +98,26 @@ fn posted_edit_is_pending_until_its_own_words_are_decided(rt: HostRuntime) -> Re
         &[
             Turn::Begins(0, 1),
             Turn::Sets(FIRST, 1, 10),
-            Turn::Declines(Request::Outcome(FIRST), 6),
+            Turn::Declines(Request::Outcome(FIRST), Refusal::NotYours),
             Turn::Asks(Request::Post(FIRST), Response::Sent(FIRST, 5)),
             Turn::Asks(Request::Outcome(FIRST), Response::Pending),
             Turn::Delivers(1, Words::Edit(1, 1, 0, 1, 10), Decision::Commit(1)),
             Turn::Asks(Request::Outcome(FIRST), Response::Pending),
-            Turn::Declines(Request::Outcome(NEXT), 6),
-            Turn::Declines(Request::Outcome(Handle { slot: 8, ..FIRST }), 6),
-            Turn::Declines(Request::Outcome(Handle { site: 1, ..FIRST }), 6),
+            Turn::Declines(Request::Outcome(NEXT), Refusal::NotYours),
+            Turn::Declines(
+                Request::Outcome(Handle { slot: 8, ..FIRST }),
+                Refusal::NotYours,
+            ),
+            Turn::Declines(
+                Request::Outcome(Handle { site: 1, ..FIRST }),
+                Refusal::NotYours,
+            ),
             Turn::Delivers(2, Words::Edit(0, 1, 0, 1, 10), Decision::Conflict(1)),
             Turn::Asks(
                 Request::Outcome(FIRST),
                 Response::Told(Decision::Conflict(1)),
             ),
-            Turn::Declines(Request::Outcome(FIRST), 6),
+            Turn::Declines(Request::Outcome(FIRST), Refusal::NotYours),
             Turn::Begins(0, 2),
         ],
     )
@@ -129,7 +136,7 @@ fn edit_that_was_let_go_is_decided_and_not_told(rt: HostRuntime) -> Result<(), F
             Turn::Asks(Request::Post(FIRST), Response::Sent(FIRST, 5)),
             Turn::Does(Request::LetGo(FIRST)),
             Turn::Delivers(1, Words::Edit(0, 1, 0, 1, 10), Decision::Commit(1)),
-            Turn::Declines(Request::Outcome(FIRST), 6),
+            Turn::Declines(Request::Outcome(FIRST), Refusal::NotYours),
             Turn::CatchesUp,
             Turn::Looks(1, Some(10)),
         ],

@@ -8,11 +8,6 @@ pub(crate) const ROOM: usize = 40;
 // A word that no site writes: what buffers hold before a call.
 pub(crate) const BLANK: u32 = 0xdead_beef;
 
-// The number that a call was declined with.
-pub(crate) fn declined(answer: Result<Response, Refusal>) -> Option<u32> {
-    answer.err().map(|refusal| refusal.number())
-}
-
 // How many words were written.
 pub(crate) fn written(answer: Result<Response, Refusal>) -> Option<usize> {
     match answer {

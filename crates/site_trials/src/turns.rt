@@ -1,12 +1,13 @@
 // Trials as lists of turns: a call at site 0 of a group of two, and what it has to answer.
 use crate::moments::Moment;
-use crate::said::{BLANK, ROOM, declined, written};
+use crate::said::{BLANK, ROOM, written};
 use crate::seen::{check_seen, see};
 use crate::spelt::{Words, spell};
 use account::decisions::Decision;
 use few::Few;
 use site::calls::{Calls, Request, Response};
 use site::handles::Handle;
+use site::refusals::Refusal;
 use site::site::changes::Stepped;
 use std::process::Abort;
 use words::changes::{Change, Write};
@@ -17,14 +18,14 @@ pub(crate) enum Turn {
     Asks(Request, Response),
     // The call is carried out, and answers nothing.
     Does(Request),
-    // The call is declined with the number, and nothing is changed; the buffer has room, or so many words of it.
-    Declines(Request, u32),
-    Cramped(Request, usize, u32),
+    // The call is declined so, and nothing is changed; the buffer has room, or so many words of it.
+    Declines(Request, Refusal),
+    Cramped(Request, usize, Refusal),
     // Begin gives the draft of this slot and this ticket.
     Begins(u32, u32),
-    // The draft sets the item to the value; or that is declined with the number.
+    // The draft sets the item to the value; or that is declined so.
     Sets(Handle, u32, i32),
-    Keeps(Handle, u32, i32, u32),
+    Keeps(Handle, u32, i32, Refusal),
     // The draft sets items 16 down to 1 to 7.
     Fills(Handle),
     // The draft reads the item as this, or it is looked up as this.
@@ -32,11 +33,11 @@ pub(crate) enum Turn {
     Looks(u32, Option<i32>),
     // The words of that place are decided so; or declined.
     Delivers(u32, Words, Decision),
-    Misplaces(u32, Words, u32),
+    Misplaces(u32, Words, Refusal),
     // The words are taken as a page; or declined.
     Takes(Words),
-    Rejects(Words, u32),
-    // The call writes these words into a buffer that is just long enough, and is declined with 10 in one a word shorter.
+    Rejects(Words, Refusal),
+    // The call writes these words into a buffer that is just long enough, and is declined in one a word shorter.
     Writes(Request, Words),
     // The call writes these words from the first word on, and leaves the rest of a longer buffer.
     Leads(Request, Words),
@@ -58,15 +59,15 @@ fn put(draft: Handle, item: u32, value: i32) -> Request {
 }
 
 impl<A: Abort, C: Calls> Trial<'_, A, C> {
-    // The call with these words and this room is declined with the number, and leaves the site, its drafts and the buffer.
-    fn declines(&mut self, request: Request, words: &[u32], room: usize, number: u32) {
+    // The call with these words and this room is declined so, and leaves the site, its drafts and the buffer.
+    fn declines(&mut self, request: Request, words: &[u32], room: usize, refusal: Refusal) {
         let rt = self.rt;
         let moment = self.moment;
         let before = see(self.site);
         let mut out = [BLANK; ROOM];
         assert!(rt; room <= ROOM, "{moment}");
         let answer = self.site.call(request, words, &mut out[0..room]);
-        assert_eq!(rt; declined(answer), Some(number), "{moment}");
+        assert_eq!(rt; answer, Err(refusal), "{moment}");
         assert_eq!(rt; out, [BLANK; ROOM], "{moment}");
         check_seen(rt, moment, before, see(self.site));
     }
@@ -98,7 +99,7 @@ impl<A: Abort, C: Calls> Trial<'_, A, C> {
         let moment = self.moment;
         let words = spell(expected);
         assert!(rt; !words.is_empty(), "{moment}");
-        self.declines(request, &[], words.len() - 1, 10);
+        self.declines(request, &[], words.len() - 1, Refusal::ShortBuffer);
         self.writes_in(request, words.len(), words);
     }
 
@@ -132,11 +133,11 @@ impl<A: Abort, C: Calls> Trial<'_, A, C> {
     }
 
     // With words handed in.
-    fn hand(&mut self, request: Request, given: Words, expected: Result<Response, u32>) {
+    fn hand(&mut self, request: Request, given: Words, expected: Result<Response, Refusal>) {
         let words = spell(given);
         match expected {
             Ok(response) => self.asks(request, words.as_slice(), response),
-            Err(number) => self.declines(request, words.as_slice(), 0, number),
+            Err(refusal) => self.declines(request, words.as_slice(), 0, refusal),
         }
     }
 
@@ -144,14 +145,14 @@ impl<A: Abort, C: Calls> Trial<'_, A, C> {
         match turn {
             Turn::Asks(request, expected) => self.asks(request, &[], expected),
             Turn::Does(request) => self.asks(request, &[], Response::Done),
-            Turn::Declines(request, number) => self.declines(request, &[], ROOM, number),
-            Turn::Cramped(request, room, number) => self.declines(request, &[], room, number),
+            Turn::Declines(request, refusal) => self.declines(request, &[], ROOM, refusal),
+            Turn::Cramped(request, room, refusal) => self.declines(request, &[], room, refusal),
             Turn::Begins(slot, ticket) => self.begins(slot, ticket),
             Turn::Sets(draft, item, value) => {
                 self.asks(put(draft, item, value), &[], Response::Done)
             }
-            Turn::Keeps(draft, item, value, number) => {
-                self.declines(put(draft, item, value), &[], ROOM, number)
+            Turn::Keeps(draft, item, value, refusal) => {
+                self.declines(put(draft, item, value), &[], ROOM, refusal)
             }
             Turn::Fills(draft) => self.fills(draft),
             Turn::Reads(draft, item, value) => {
@@ -161,11 +162,11 @@ impl<A: Abort, C: Calls> Trial<'_, A, C> {
             Turn::Delivers(place, words, decision) => {
                 self.hand(Request::Deliver(place), words, Ok(Response::Told(decision)))
             }
-            Turn::Misplaces(place, words, number) => {
-                self.hand(Request::Deliver(place), words, Err(number))
+            Turn::Misplaces(place, words, refusal) => {
+                self.hand(Request::Deliver(place), words, Err(refusal))
             }
             Turn::Takes(words) => self.hand(Request::Take, words, Ok(Response::Done)),
-            Turn::Rejects(words, number) => self.hand(Request::Take, words, Err(number)),
+            Turn::Rejects(words, refusal) => self.hand(Request::Take, words, Err(refusal)),
             Turn::Writes(request, words) => self.writes(request, words),
             Turn::Leads(request, words) => self.writes_in(request, ROOM, spell(words)),
             Turn::CatchesUp => self.catches_up(),
