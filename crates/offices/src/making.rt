@@ -9,7 +9,7 @@ use logs::api::Log;
 use logs::flat::Flat;
 use logs::packed::Packed;
 use logs::row::FlatEntry;
-use script::asks::{Ask, LogKind, StoreKind};
+use script::asks::{Ask, LogKind, Plan, StoreKind};
 use script::lines::parse_line;
 use site::site::Site;
 use std::alloc::Global;
@@ -32,38 +32,12 @@ const NO_RECORD: Record = Record {
     change: Change::Remove,
 };
 
-// What a site is made over.
-#[derive(Clone, Copy)]
-struct Plan {
-    store: StoreKind,
-    records: u32,
-    log: LogKind,
-    room: u32,
-}
-
 // What the line says of a site, if it makes that site.
 fn plan_in(words: &[u8], number: u32) -> Option<Plan> {
-    let Ok(
-        Ask::Site {
-            site,
-            store,
-            records,
-            log,
-            room,
-        },
-    ) = parse_line(words)
-    else {
-        return None;
-    };
-    if site != number {
-        return None;
+    match parse_line(words) {
+        Ok(Ask::Site { site, plan }) if site == number => Some(plan),
+        _ => None,
     }
-    Some(Plan {
-        store,
-        records,
-        log,
-        room,
-    })
 }
 
 // What the first line that makes the site says of it. A site that no line makes gets no room, and no line reaches it.

@@ -84,7 +84,7 @@ deed_value deed.Show = Show
 
 abbrev pub ask_value : Ask → AskValue
 ask_value (ask.Group n) = Group n
-ask_value (ask.Site i s r l k) = Site i s r l k
+ask_value (ask.Site i p) = Site i p.store p.records p.log p.room
 ask_value (ask.Send s) = Send (source_value s)
 ask_value (ask.At i d) = At i (deed_value d)
 

@@ -15,6 +15,15 @@ pub enum LogKind {
     Packed,
 }
 
+/// What a site is made over.
+#[derive(Clone, Copy)]
+pub struct Plan {
+    pub store: StoreKind,
+    pub records: u32,
+    pub log: LogKind,
+    pub room: u32,
+}
+
 /// How many words the buffer of a call has, and the name that the words written get.
 #[derive(Clone, Copy)]
 pub struct Buffer<'a> {
@@ -56,16 +65,7 @@ pub enum Deed<'a> {
 #[derive(Clone, Copy)]
 pub enum Ask<'a> {
     Group(u32),
-    Site {
-        site: u32,
-        store: StoreKind,
-        records: u32,
-        log: LogKind,
-        room: u32,
-    },
+    Site { site: u32, plan: Plan },
     Send(Source<'a>),
-    At {
-        site: u32,
-        deed: Deed<'a>,
-    },
+    At { site: u32, deed: Deed<'a> },
 }

@@ -5,7 +5,7 @@ ghost use Rattle.script.specs.Values.{told, ask_value};
 ghost use Rattle.script.specs.Lines.{group_in, store_first, log_first, site_in, send_in, at_in, line_in};
 ghost use Rattle.script.specs.Parts.{at_rest};
 
-use crate::asks::{Ask, LogKind, StoreKind};
+use crate::asks::{Ask, LogKind, Plan, StoreKind};
 use crate::deeds::parse_deed;
 use crate::faults::Fault;
 use crate::parts::{parse_number, parse_only, parse_source};
@@ -46,13 +46,13 @@ fn parse_site<'a>(text: &'a [u8]) -> Result<Ask<'a>, Fault>
     let (records, rest) = parse_number(rest)?;
     let (log, rest) = parse_log(rest)?;
     let room = parse_only(rest, parse_number)?;
-    Ok(Ask::Site {
-        site,
+    let plan = Plan {
         store,
         records,
         log,
         room,
-    })
+    };
+    Ok(Ask::Site { site, plan })
 }
 
 fn parse_send<'a>(text: &'a [u8]) -> Result<Ask<'a>, Fault>
