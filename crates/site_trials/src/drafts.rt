@@ -136,6 +136,14 @@ fn writes_are_declined_from_opening_to_sealing(rt: HostRuntime) -> Result<(), Fa
 // Of several refusals the handle comes before the range and the room.
 #[test]
 fn handles_of_another_site_slot_or_ticket_are_declined(rt: HostRuntime) -> Result<(), Fail> {
+    let site = Handle { site: 1, ..FIRST };
+    let slot = Handle { slot: 1, ..FIRST };
+    let past = Handle { slot: 8, ..FIRST };
+    let far = Handle {
+        slot: 4_294_967_295,
+        ..FIRST
+    };
+    let none = Handle { ticket: 0, ..FIRST };
     on_both(
         &rt,
         rt.alloc(),
@@ -144,46 +152,19 @@ fn handles_of_another_site_slot_or_ticket_are_declined(rt: HostRuntime) -> Resul
         &[
             Turn::Begins(0, 1),
             Turn::Sets(FIRST, 1, 10),
-            Turn::Declines(
-                Request::Read(Handle { site: 1, ..FIRST }, 1),
-                Refusal::NotYours,
-            ),
-            Turn::Declines(
-                Request::Read(Handle { slot: 1, ..FIRST }, 1),
-                Refusal::NotYours,
-            ),
-            Turn::Declines(
-                Request::Read(Handle { slot: 8, ..FIRST }, 1),
-                Refusal::NotYours,
-            ),
-            Turn::Declines(
-                Request::Read(
-                    Handle {
-                        slot: 4_294_967_295,
-                        ..FIRST
-                    },
-                    1,
-                ),
-                Refusal::NotYours,
-            ),
+            Turn::Declines(Request::Read(site, 1), Refusal::NotYours),
+            Turn::Declines(Request::Read(slot, 1), Refusal::NotYours),
+            Turn::Declines(Request::Read(past, 1), Refusal::NotYours),
+            Turn::Declines(Request::Read(far, 1), Refusal::NotYours),
             Turn::Declines(Request::Read(NEXT, 1), Refusal::NotYours),
-            Turn::Declines(
-                Request::Read(Handle { ticket: 0, ..FIRST }, 268_435_456),
-                Refusal::NotYours,
-            ),
-            Turn::Keeps(Handle { site: 1, ..FIRST }, 1, 11, Refusal::NotYours),
-            Turn::Keeps(Handle { slot: 8, ..FIRST }, 1, 11, Refusal::NotYours),
+            Turn::Declines(Request::Read(none, 268_435_456), Refusal::NotYours),
+            Turn::Keeps(site, 1, 11, Refusal::NotYours),
+            Turn::Keeps(past, 1, 11, Refusal::NotYours),
             Turn::Keeps(NEXT, 268_435_456, 11, Refusal::NotYours),
-            Turn::Declines(
-                Request::Post(Handle { site: 1, ..FIRST }),
-                Refusal::NotYours,
-            ),
-            Turn::Declines(
-                Request::Post(Handle { slot: 1, ..FIRST }),
-                Refusal::NotYours,
-            ),
+            Turn::Declines(Request::Post(site), Refusal::NotYours),
+            Turn::Declines(Request::Post(slot), Refusal::NotYours),
             Turn::Cramped(Request::Post(NEXT), 0, Refusal::NotYours),
-            Turn::Does(Request::GiveUp(Handle { site: 1, ..FIRST })),
+            Turn::Does(Request::GiveUp(site)),
             Turn::Does(Request::GiveUp(NEXT)),
             Turn::Does(Request::LetGo(FIRST)),
             Turn::Reads(FIRST, 1, Some(10)),

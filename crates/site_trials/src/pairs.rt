@@ -22,6 +22,7 @@ const NONE: Record = Record {
     change: Change::Remove,
 };
 
+// The four makers share no helper: each type has its own `new`, with other memory and other failures.
 fn journal(heap: Global, records: u8) -> Result<Journal, Fail> {
     Ok(Journal::new(vec![in heap; NONE; usize::from(records)]?))
 }
@@ -42,7 +43,7 @@ fn packed(heap: Global, entries: u8) -> Result<Packed, Fail> {
     Packed::new(heap, 2, memory).map_err(|_| Fail::new("the packed log was not made"))
 }
 
-// What was done to the store or to the log before the site is made.
+// What was done to the store or to the log before the site is made: a value, since it is done at two types of store and log.
 #[derive(Clone, Copy)]
 pub(crate) enum Before {
     Nothing,
@@ -129,24 +130,10 @@ pub(crate) fn made_on_both(
     entries: u8,
     turns: &[Turn],
 ) -> Result<(), Fail> {
-    let store = journal(heap, records)?;
-    drive(
-        rt,
-        "journal and flat",
-        making,
-        store,
-        flat(heap, entries)?,
-        turns,
-    );
-    let store = chains(heap, records)?;
-    drive(
-        rt,
-        "chains and packed",
-        making,
-        store,
-        packed(heap, entries)?,
-        turns,
-    );
+    let (store, log) = (journal(heap, records)?, flat(heap, entries)?);
+    drive(rt, "journal and flat", making, store, log, turns);
+    let (store, log) = (chains(heap, records)?, packed(heap, entries)?);
+    drive(rt, "chains and packed", making, store, log, turns);
     Ok(())
 }
 

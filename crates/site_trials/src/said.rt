@@ -5,7 +5,7 @@ use site::refusals::Refusal;
 // Room for any words that a site writes, and more.
 pub(crate) const ROOM: usize = 40;
 
-// A word that no site writes: what buffers hold before a call.
+// A word that no site writes: what buffers hold before a call. Each crate of trials has its own, since they share no library.
 pub(crate) const BLANK: u32 = 0xdead_beef;
 
 // How many words were written.

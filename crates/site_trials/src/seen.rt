@@ -29,6 +29,7 @@ pub(crate) const NEXT: Handle = Handle {
 const ITEMS: [u32; 4] = [1, 2, 3, 268_435_455];
 
 // All that a site shows, and each item as it is looked up and as the two drafts read it; none where that is declined.
+// Three arrays beside `ITEMS`: each is a map over it, and a failure names the one that differs.
 #[derive(Clone, Copy)]
 pub(crate) struct Seen {
     shown: Shown,
@@ -67,6 +68,7 @@ fn numbers(shown: Shown) -> [u32; 7] {
     ]
 }
 
+// Field by field, since the list in `Shown` derives no equality.
 fn check_shown(rt: &impl Abort, moment: Moment, before: Shown, after: Shown) {
     assert_eq!(rt; after.mode, before.mode, "{moment}");
     assert_eq!(rt; numbers(after), numbers(before), "{moment}");

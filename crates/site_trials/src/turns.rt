@@ -12,6 +12,7 @@ use site::site::changes::Stepped;
 use std::process::Abort;
 use words::changes::{Change, Write};
 
+// Calls as values, since one list is played at two types of site.
 #[derive(Clone, Copy)]
 pub(crate) enum Turn {
     // The call is answered so; the buffer has room.
