@@ -1,6 +1,6 @@
 // Damaged messages: each is void, or is read as exactly what its words say.
 use crate::examples::{EDIT_WORDS, REPORT_WORDS, with};
-use crate::respelled::{Messages, just_these_turn, no_front_reads, reads_as_its_words};
+use crate::respelled::{Messages, Trial};
 use std::alloc::Global;
 use std::test::Fail;
 use words::messages::message_kind;
@@ -21,15 +21,19 @@ fn messages_are_told_by_their_kind(rt: HostRuntime) {
 
 #[test]
 fn message_reads_as_its_words(rt: HostRuntime) -> Result<(), Fail> {
-    assert!(rt; reads_as_its_words(&rt, rt.alloc(), &Messages, &EDIT_WORDS, 3)?);
-    assert!(rt; reads_as_its_words(&rt, rt.alloc(), &Messages, &REPORT_WORDS, 2)?);
+    let edits = Trial::new(&rt, rt.alloc(), &Messages, 3);
+    assert!(rt; edits.reads(&EDIT_WORDS)?);
+    let reports = Trial::new(&rt, rt.alloc(), &Messages, 2);
+    assert!(rt; reports.reads(&REPORT_WORDS)?);
     Ok(())
 }
 
 #[test]
 fn message_cut_at_any_length_is_void(rt: HostRuntime) -> Result<(), Fail> {
-    no_front_reads(&rt, rt.alloc(), &Messages, &EDIT_WORDS, 3)?;
-    no_front_reads(&rt, rt.alloc(), &Messages, &REPORT_WORDS, 2)
+    let edits = Trial::new(&rt, rt.alloc(), &Messages, 3);
+    edits.no_front_reads(&EDIT_WORDS)?;
+    let reports = Trial::new(&rt, rt.alloc(), &Messages, 2);
+    reports.no_front_reads(&REPORT_WORDS)
 }
 
 // Bits that can be turned: the site's up to 7, those of ticket, snapshot and value, those of items that still rise,
@@ -46,14 +50,16 @@ fn edit_with_a_bit_turned_is_void_or_its_words(rt: HostRuntime) -> Result<(), Fa
         0x1000_0000,
     ];
     let mut words = EDIT_WORDS;
-    just_these_turn(&rt, rt.alloc(), &Messages, &mut words, 8, &free)
+    let trial = Trial::new(&rt, rt.alloc(), &Messages, 8);
+    trial.just_these_turn(&mut words, &free)
 }
 
 #[test]
 fn report_with_a_bit_turned_is_void_or_its_words(rt: HostRuntime) -> Result<(), Fail> {
     let free = [0x0700_0000, 0x0fff_ffff];
     let mut words = REPORT_WORDS;
-    just_these_turn(&rt, rt.alloc(), &Messages, &mut words, 8, &free)
+    let trial = Trial::new(&rt, rt.alloc(), &Messages, 8);
+    trial.just_these_turn(&mut words, &free)
 }
 
 // The edit with one of its words replaced.

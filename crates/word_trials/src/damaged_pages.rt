@@ -1,20 +1,22 @@
 // Damaged pages: each is none, or is read as exactly what its words say.
 use crate::examples::{CLOSING_WORDS, ENTRY_WORDS, with};
-use crate::respelled::{Pages, just_these_turn, no_front_reads, reads_as_its_words};
+use crate::respelled::{Pages, Trial};
 use std::test::Fail;
 use words::pages::read_page;
 
 #[test]
 fn page_reads_as_its_words(rt: HostRuntime) -> Result<(), Fail> {
-    assert!(rt; reads_as_its_words(&rt, rt.alloc(), &Pages, &ENTRY_WORDS, 3)?);
-    assert!(rt; reads_as_its_words(&rt, rt.alloc(), &Pages, &CLOSING_WORDS, 3)?);
+    let trial = Trial::new(&rt, rt.alloc(), &Pages, 3);
+    assert!(rt; trial.reads(&ENTRY_WORDS)?);
+    assert!(rt; trial.reads(&CLOSING_WORDS)?);
     Ok(())
 }
 
 #[test]
 fn page_cut_at_any_length_is_none(rt: HostRuntime) -> Result<(), Fail> {
-    no_front_reads(&rt, rt.alloc(), &Pages, &ENTRY_WORDS, 3)?;
-    no_front_reads(&rt, rt.alloc(), &Pages, &CLOSING_WORDS, 3)
+    let trial = Trial::new(&rt, rt.alloc(), &Pages, 3);
+    trial.no_front_reads(&ENTRY_WORDS)?;
+    trial.no_front_reads(&CLOSING_WORDS)
 }
 
 // As in an edit, but that the version may not become 0.
@@ -30,7 +32,8 @@ fn entry_with_a_bit_turned_is_none_or_its_words(rt: HostRuntime) -> Result<(), F
         0x1000_0000,
     ];
     let mut words = ENTRY_WORDS;
-    just_these_turn(&rt, rt.alloc(), &Pages, &mut words, 8, &free)
+    let trial = Trial::new(&rt, rt.alloc(), &Pages, 8);
+    trial.just_these_turn(&mut words, &free)
 }
 
 // The version stays at 4 to 6, the place is not below it, and the known numbers are not above it.
@@ -45,7 +48,8 @@ fn closing_with_a_bit_turned_is_none_or_its_words(rt: HostRuntime) -> Result<(),
         0x0000_0003,
     ];
     let mut words = CLOSING_WORDS;
-    just_these_turn(&rt, rt.alloc(), &Pages, &mut words, 3, &free)
+    let trial = Trial::new(&rt, rt.alloc(), &Pages, 3);
+    trial.just_these_turn(&mut words, &free)
 }
 
 fn is_page(words: &[u32], sites: u32) -> bool {
