@@ -4,11 +4,13 @@ use words::changes::{Change, Write};
 
 pub(crate) type Numbers = Random<4>;
 
+// What a list of writes is filled with before they are drawn. No library has a blank write public.
 pub(crate) const NO_WRITE: Write = Write {
     item: 0,
     change: Change::Remove,
 };
 
+// Any value, and a removal one time in 3. The calls of replay draw other changes (small values, one in 4), so this is no copy.
 fn draw_change(random: &mut Numbers) -> Change {
     if random.is_time(3) {
         return Change::Remove;

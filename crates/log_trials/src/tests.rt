@@ -27,6 +27,7 @@ struct Seen {
     empty: u32,
 }
 
+// The two makers share no helper: each type has its own `new`, with other memory and other failures.
 fn flat_log(heap: Global, sites: u32, entries: usize) -> Result<Flat, Fail> {
     let memory = vec![in heap; FlatEntry::new(); entries]?;
     Flat::new(sites, memory).map_err(|_| Fail::new("the flat log was not made"))
@@ -96,18 +97,18 @@ fn drive(rt: &impl Abort, pair: &mut Both, seed: u32, count: Option<usize>) -> S
 
 #[test]
 fn logs_agree_on_equal_entries(rt: HostRuntime) -> Result<(), Fail> {
-    let mut two = make(rt.alloc(), 5, 5 * 7 + 6)?;
-    let seen = drive(&rt, &mut two, 1, Some(2));
-    assert!(rt; seen.full > 50);
-    assert!(rt; seen.empty > 50);
-    let mut most = make(rt.alloc(), 3, 3 * 35 + 34)?;
-    let seen = drive(&rt, &mut most, 2, Some(16));
-    assert!(rt; seen.full > 50);
-    assert!(rt; seen.empty > 50);
-    let mut none = make(rt.alloc(), 7, 7 * 3 + 2)?;
-    let seen = drive(&rt, &mut none, 3, Some(0));
-    assert!(rt; seen.full > 50);
-    assert!(rt; seen.empty > 50);
+    // A seed, entries of the flat log, words of the packed one, writes of each entry.
+    let trials = [
+        (1, 5, 5 * 7 + 6, 2),
+        (2, 3, 3 * 35 + 34, 16),
+        (3, 7, 7 * 3 + 2, 0),
+    ];
+    for (seed, entries, words, count) in trials {
+        let mut pair = make(rt.alloc(), entries, words)?;
+        let seen = drive(&rt, &mut pair, seed, Some(count));
+        assert!(rt; seen.full > 50, "seed {seed}");
+        assert!(rt; seen.empty > 50, "seed {seed}");
+    }
     Ok(())
 }
 
@@ -128,19 +129,16 @@ fn too_many_writes_are_declined(rt: HostRuntime) -> Result<(), Fail> {
     Ok(())
 }
 
-// A log of a wrong number of sites is not made, and its memory comes back.
+// A log is not made, and its memory comes back.
+fn comes_back<L: Drop, M: Drop>(rt: &impl Abort, made: Result<L, Vec<M>>, length: usize) {
+    assert_eq!(rt; made.err().map(|memory| memory.len()), Some(length));
+}
+
+// Logs of a wrong number of sites.
 fn is_handed_back(rt: &impl Abort, heap: Global, sites: u32) -> Result<(), Fail> {
-    match Flat::new(sites, vec![in heap; FlatEntry::new(); 3]?) {
-        Ok(_) => return Err(Fail::new("the flat log was made")),
-        Err(memory) => assert_eq!(rt; memory.len(), 3),
-    }
-    match Packed::new(heap, sites, vec![in heap; 0u32; 9]?) {
-        Ok(_) => Err(Fail::new("the packed log was made")),
-        Err(memory) => {
-            assert_eq!(rt; memory.len(), 9);
-            Ok(())
-        },
-    }
+    comes_back(rt, Flat::new(sites, vec![in heap; FlatEntry::new(); 3]?), 3);
+    comes_back(rt, Packed::new(heap, sites, vec![in heap; 0u32; 9]?), 9);
+    Ok(())
 }
 
 #[test]
