@@ -13,6 +13,7 @@ fn item(source: &mut Source, items: u32) -> u32 {
     source.below(items).wrapping_mul(32)
 }
 
+// A small value, and a removal one time in 4. The writes of log_trials draw other changes (any value, one in 3), so this is no copy.
 fn change(source: &mut Source) -> Change {
     if source.is_time(4) {
         return Change::Remove;

@@ -10,6 +10,7 @@ use store::journal::Journal;
 use store::records::Record;
 use words::changes::{Change, Write};
 
+// What a store's memory is filled with. No library has a blank record public.
 const BLANK: Record = Record {
     version: 0,
     item: 0,

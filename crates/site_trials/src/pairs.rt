@@ -16,6 +16,7 @@ use store::journal::Journal;
 use store::records::Record;
 use words::changes::{Change, Write};
 
+// What a store's memory is filled with. No library has a blank record public.
 const NONE: Record = Record {
     version: 0,
     item: 0,
