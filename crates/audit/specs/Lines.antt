@@ -2,7 +2,7 @@
 use Rattle.std.specs.Prelude.{◌≡◌, ℕ, Bool, false, cond, List, [], ◌∷◌, Some, None, Ok, Err, vec_items, codes, Option, Result, Vec}
 use Rattle.std.specs.declared.alloc.Global.{Global}
 use Rattle.std.specs.Str.{bytes_eq}
-use Rattle.text.specs.Numbers.{decimal_of, hex_word_of}
+use Rattle.text.specs.Numbers.{decimal_of, hex_words_of}
 use Rattle.audit.specs.declared.lines.Reason.{Reason}
 use Rattle.audit.specs.declared.lines.Reason.TheVariants.{NoGroup, NoWord, NoMemory}
 
@@ -18,15 +18,10 @@ group_line (g ∷ []) = Err NoGroup
 group_line (g ∷ (n ∷ [])) = cond (bytes_eq g (codes "group")) (sites_in (decimal_of n)) (Err NoGroup)
 group_line (g ∷ (n ∷ (x ∷ ws))) = Err NoGroup
 
--- Words of eight hexadecimal digits, as the words that they write.
-abbrev pub consed : Option ℕ → Result (List ℕ) Reason → Result (List ℕ) Reason
-consed None r = Err NoWord
-consed (Some w) (Err e) = Err e
-consed (Some w) (Ok ws) = Ok (w ∷ ws)
-
-abbrev pub hex_words : List (List ℕ) → Result (List ℕ) Reason
-hex_words [] = Ok []
-hex_words (w ∷ ws) = consed (hex_word_of w) (hex_words ws)
+-- The words of a message, if all are spelt.
+abbrev pub words_in : Option (List ℕ) → Result (List ℕ) Reason
+words_in None = Err NoWord
+words_in (Some ws) = Ok ws
 
 -- Whether the line is a lone `-`, a message of no words.
 abbrev pub is_dash : List (List ℕ) → Bool
@@ -36,7 +31,7 @@ is_dash (w ∷ (x ∷ ws)) = false
 
 -- Any later line: the words of a message.
 abbrev pub message_line : List (List ℕ) → Result (List ℕ) Reason
-message_line ws = cond (is_dash ws) (Ok []) (hex_words ws)
+message_line ws = cond (is_dash ws) (Ok []) (words_in (hex_words_of ws))
 
 -- A message parsed: its words, or why there are none; memory may fail.
 abbrev pub Parsed : List (List ℕ) → Result (Vec ℕ Global) Reason → Type 0

@@ -6,8 +6,8 @@ ghost use Rattle.audit.specs.declared.lines.Reason.TheVariants.{NoMemory};
 
 use std::alloc::{AllocError, AllocFailed, Global};
 use text::names::same;
-use text::numbers::{decimal, hex_word};
-use text::split::{Words, is_blank, next_word};
+use text::numbers::{decimal, hex_words};
+use text::split::{is_blank, next_word};
 use thiserror::Error;
 
 /// Why a line is not understood.
@@ -62,12 +62,8 @@ fn is_dash(line: &[u8]) -> bool
 pub fn parse_message(heap: Global, line: &[u8]) -> Result<Vec<u32>, Reason>
     ensures { Parsed (words line.now) result }
 {
-    let mut message = Vec::new(heap);
     if is_dash(line) {
-        return Ok(message);
+        return Ok(Vec::new(heap));
     }
-    for word in Words(line) {
-        message.push(hex_word(word).ok_or(Reason::NoWord)?)?;
-    }
-    Ok(message)
+    hex_words(heap, line)?.ok_or(Reason::NoWord)
 }

@@ -5,11 +5,11 @@ use crate::reasons::Reason;
 use group::any::AnySite;
 use group::group::Group;
 use script::asks::Source;
-use script::parts::read_words;
 use site::handles::Handle;
 use site::refusals::Refusal;
 use std::alloc::Global;
 use std::collections::BTreeMap;
+use text::numbers::hex_words;
 
 mod calls;
 
@@ -85,7 +85,7 @@ impl<'a> Stage<'a> {
     fn words_of(&self, source: Source) -> Result<Vec<u32>, Reason> {
         match source {
             Source::Named(name) => Ok(self.messages.get(name).ok_or(Reason::NoWords)?.clone()?),
-            Source::Spelt(text) => read_words(self.heap, text)?.ok_or(Reason::NoWords),
+            Source::Spelt(text) => hex_words(self.heap, text)?.ok_or(Reason::NoWords),
         }
     }
 

@@ -1,2 +1,1 @@
-mod SpeltLaws
 mod TableLaws

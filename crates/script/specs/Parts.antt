@@ -75,13 +75,3 @@ label_in (w ∷ ws) =
 -- A buffer.
 abbrev pub buffer_in : List (List ℕ) → Result BufferValue Fault
 buffer_in ws = then (room_first ws) (λ k. then (label_in k.1) (λ m. Ok (a_buffer k.0 m)))
-
--- The words that words of eight hexadecimal digits write.
-abbrev pub consed : Option ℕ → Option (List ℕ) → Option (List ℕ)
-consed None vs = None
-consed (Some v) None = None
-consed (Some v) (Some vs) = Some (v ∷ vs)
-
-abbrev pub hex_words : List (List ℕ) → Option (List ℕ)
-hex_words [] = Some []
-hex_words (w ∷ ws) = consed (hex_word_of w) (hex_words ws)

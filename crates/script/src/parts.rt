@@ -1,13 +1,12 @@
 // Single arguments of a line. Each takes the text that is still to be read.
-ghost use Rattle.std.specs.Prelude.{◌≡◌, IfOk, vec_items};
+ghost use Rattle.std.specs.Prelude.{◌≡◌};
 ghost use Rattle.text.specs.Split.{words};
 ghost use Rattle.std.specs.Option.{option_map};
 ghost use Rattle.script.specs.Values.{told, bytes, source_value, buffer_value};
-ghost use Rattle.script.specs.Parts.{at_rest, pair_value, end_in, only, name_first, number_first, change_first, all_spelt, source_in, room_first, label_in, buffer_in, hex_words};
+ghost use Rattle.script.specs.Parts.{at_rest, pair_value, end_in, only, name_first, number_first, change_first, all_spelt, source_in, room_first, label_in, buffer_in};
 
 use crate::asks::{Buffer, Source};
 use crate::faults::Fault;
-use std::alloc::{AllocError, Global};
 use text::names::{is_name, same};
 use text::numbers::{decimal, hex_word, signed};
 use text::split::{Words, is_blank, next_word};
@@ -128,18 +127,4 @@ pub(crate) fn parse_buffer<'a>(text: &'a [u8]) -> Result<Buffer<'a>, Fault>
     let (room, rest) = parse_room(text)?;
     let name = parse_label(rest)?;
     Ok(Buffer { room, name })
-}
-
-/// The words that the text spells, or none where a word of it is not one of eight hexadecimal digits.
-pub fn read_words(heap: Global, text: &[u8]) -> Result<Option<Vec<u32>>, AllocError>
-    ensures { IfOk result (λ o. option_map vec_items o ≡ hex_words (words text.now)) }
-{
-    let mut values = Vec::new(heap);
-    for word in Words(text) {
-        let Some(value) = hex_word(word) else {
-            return Ok(None);
-        };
-        values.push(value)?;
-    }
-    Ok(Some(values))
 }

@@ -1,8 +1,8 @@
 use crate::asks::{Ask, Deed, Source};
 use crate::faults::Fault;
 use crate::lines::parse_line;
-use crate::parts::read_words;
 use std::test::Fail;
+use text::numbers::hex_words;
 use words::changes::Change;
 
 #[test]
@@ -64,7 +64,7 @@ fn words_are_read(rt: HostRuntime) -> Result<(), Fail> {
     let Ok(Ask::Send(Source::Spelt(text))) = parse_line(b"send 6FFFFFFF  70000000") else {
         return Err(Fail::new("the line is not understood"));
     };
-    let Some(words) = read_words(rt.alloc(), text)? else {
+    let Some(words) = hex_words(rt.alloc(), text)? else {
         return Err(Fail::new("the text has no words"));
     };
     assert!(rt; words.as_slice() == [0x6FFF_FFFF, 0x7000_0000].as_slice());

@@ -61,3 +61,13 @@ signed_of (b ∷ bs) = cond (b == 45) (negative_of (decimal_below (2 ^ 31 + 1) b
 -- The value of a word of exactly eight hexadecimal digits.
 abbrev pub hex_word_of : List ℕ → Option ℕ
 hex_word_of w = cond (length w == 8 && all_digits 16 w) (Some (value_of 16 w)) None
+
+-- The words that words of eight hexadecimal digits write; none where a word is not one.
+abbrev pub consed : Option ℕ → Option (List ℕ) → Option (List ℕ)
+consed None vs = None
+consed (Some v) None = None
+consed (Some v) (Some vs) = Some (v ∷ vs)
+
+abbrev pub hex_words_of : List (List ℕ) → Option (List ℕ)
+hex_words_of [] = Some []
+hex_words_of (w ∷ ws) = consed (hex_word_of w) (hex_words_of ws)

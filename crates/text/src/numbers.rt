@@ -1,6 +1,11 @@
 // Numbers that a word writes.
-ghost use Rattle.std.specs.Prelude.{◌≡◌, ◌+◌, ◌%◌, ◌^◌, ◌≤◌, Some};
-ghost use Rattle.text.specs.Numbers.{below, digit_value, digit_of, more_of, number_of, decimal_of, positive_of, negative_of, signed_of, hex_word_of};
+ghost use Rattle.std.specs.Prelude.{◌≡◌, ◌+◌, ◌%◌, ◌^◌, ◌≤◌, IfOk, Some, vec_items};
+ghost use Rattle.std.specs.Option.{option_map};
+ghost use Rattle.text.specs.Numbers.{below, digit_value, digit_of, more_of, number_of, decimal_of, positive_of, negative_of, signed_of, hex_word_of, hex_words_of};
+ghost use Rattle.text.specs.Split.{words};
+
+use crate::split::Words;
+use std::alloc::{AllocError, Global};
 
 // The value of a digit of the base. The digits above 9 are upper-case letters.
 fn digit(byte: u8, base: u32) -> Option<u32>
@@ -83,6 +88,20 @@ pub fn hex_word(word: &[u8]) -> Option<u32>
         return None;
     }
     number(word, 16)
+}
+
+/// The words that the text spells, or none where a word of it is not one of eight hexadecimal digits.
+pub fn hex_words(heap: Global, text: &[u8]) -> Result<Option<Vec<u32>>, AllocError>
+    ensures { IfOk result (λ o. option_map vec_items o ≡ hex_words_of (words text.now)) }
+{
+    let mut values = Vec::new(heap);
+    for word in Words(text) {
+        let Some(value) = hex_word(word) else {
+            return Ok(None);
+        };
+        values.push(value)?;
+    }
+    Ok(Some(values))
 }
 
 // The upper-case hexadecimal digit of the low four bits.
