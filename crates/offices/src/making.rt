@@ -81,7 +81,7 @@ fn make_site<S: Store + Drop, L: Log + Drop>(
         .context("a site was not made")
 }
 
-// The site of that number over the store and the log of its plan.
+// The site of that number over the store and the log of its plan. Four arms, since each makes a site of another type.
 fn make_any(heap: Global, sites: u32, number: u32, plan: Plan) -> anyhow::Result<AnySite> {
     let records = vec![in heap; NO_RECORD; (plan.records as usize).min(MOST_RECORDS)]?;
     Ok(match (plan.store, plan.log) {

@@ -26,7 +26,7 @@ pub struct Stage<'a> {
     pub heap: Global,
     // None where a group cannot have so many sites.
     group: Option<Group<AnySite>>,
-    // Of each site of the group, whether its line was played.
+    // Of each site of the group, whether its line was played. Its length tells which sites there are, which a set of those played would not.
     made: Vec<bool>,
     edits: BTreeMap<&'a [u8], Edit>,
     messages: BTreeMap<&'a [u8], Vec<u32>>,
@@ -65,7 +65,7 @@ impl<'a> Stage<'a> {
         Ok(Answer::Made)
     }
 
-    // The draft of that name.
+    // The draft of that name. Apart from `posted`: one for both would be handed a kind and a reason, and match on them.
     fn draft(&self, name: &[u8]) -> Result<Handle, Reason> {
         match self.edits.get(name) {
             Some(Edit::Draft(handle)) => Ok(*handle),
