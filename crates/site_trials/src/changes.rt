@@ -13,7 +13,6 @@ use std::test::Fail;
 fn version_is_opened_where_its_writes_just_fit(rt: HostRuntime) -> Result<(), Fail> {
     on_both(
         &rt,
-        rt.alloc(),
         3,
         8,
         &[
@@ -45,7 +44,6 @@ fn version_is_opened_where_its_writes_just_fit(rt: HostRuntime) -> Result<(), Fa
 fn version_of_two_writes_is_declined_where_one_would_fit(rt: HostRuntime) -> Result<(), Fail> {
     on_both(
         &rt,
-        rt.alloc(),
         2,
         8,
         &[
@@ -64,7 +62,6 @@ fn version_of_two_writes_is_declined_where_one_would_fit(rt: HostRuntime) -> Res
 fn power_loss_drops_what_is_staged(rt: HostRuntime) -> Result<(), Fail> {
     on_both(
         &rt,
-        rt.alloc(),
         2,
         8,
         &[

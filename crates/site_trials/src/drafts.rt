@@ -16,7 +16,6 @@ use std::test::Fail;
 fn eighth_draft_is_given_and_the_ninth_is_declined(rt: HostRuntime) -> Result<(), Fail> {
     on_both(
         &rt,
-        rt.alloc(),
         8,
         8,
         &[
@@ -42,7 +41,6 @@ fn eighth_draft_is_given_and_the_ninth_is_declined(rt: HostRuntime) -> Result<()
 fn last_item_is_written_and_the_one_after_it_is_declined(rt: HostRuntime) -> Result<(), Fail> {
     on_both(
         &rt,
-        rt.alloc(),
         8,
         8,
         &[
@@ -66,7 +64,6 @@ fn last_item_is_written_and_the_one_after_it_is_declined(rt: HostRuntime) -> Res
 fn values_are_declined_from_28_bits_on(rt: HostRuntime) -> Result<(), Fail> {
     on_both(
         &rt,
-        rt.alloc(),
         8,
         8,
         &[
@@ -90,7 +87,6 @@ fn values_are_declined_from_28_bits_on(rt: HostRuntime) -> Result<(), Fail> {
 fn sixteenth_item_is_written_and_the_seventeenth_is_declined(rt: HostRuntime) -> Result<(), Fail> {
     on_both(
         &rt,
-        rt.alloc(),
         8,
         8,
         &[
@@ -111,7 +107,6 @@ fn sixteenth_item_is_written_and_the_seventeenth_is_declined(rt: HostRuntime) ->
 fn writes_are_declined_from_opening_to_sealing(rt: HostRuntime) -> Result<(), Fail> {
     on_both(
         &rt,
-        rt.alloc(),
         8,
         8,
         &[
@@ -146,7 +141,6 @@ fn handles_of_another_site_slot_or_ticket_are_declined(rt: HostRuntime) -> Resul
     let none = Handle { ticket: 0, ..FIRST };
     on_both(
         &rt,
-        rt.alloc(),
         8,
         8,
         &[
@@ -176,7 +170,6 @@ fn handles_of_another_site_slot_or_ticket_are_declined(rt: HostRuntime) -> Resul
 fn drafts_given_up_are_declined(rt: HostRuntime) -> Result<(), Fail> {
     on_both(
         &rt,
-        rt.alloc(),
         8,
         8,
         &[
@@ -199,7 +192,6 @@ fn drafts_given_up_are_declined(rt: HostRuntime) -> Result<(), Fail> {
 fn draft_reads_its_own_writes_and_its_snapshot(rt: HostRuntime) -> Result<(), Fail> {
     on_both(
         &rt,
-        rt.alloc(),
         8,
         8,
         &[

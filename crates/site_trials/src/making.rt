@@ -12,7 +12,7 @@ fn number_is_below_the_size_of_the_group(rt: HostRuntime) -> Result<(), Fail> {
             before,
             refusal,
         };
-        made_on_both(&rt, rt.alloc(), making, 2, 2, &[])?;
+        made_on_both(&rt, making, 2, 2, &[])?;
     }
     Ok(())
 }
@@ -32,7 +32,7 @@ fn store_and_log_are_fresh(rt: HostRuntime) -> Result<(), Fail> {
             before,
             refusal: Some(Refusal::NotFresh),
         };
-        made_on_both(&rt, rt.alloc(), making, 2, 2, &[])?;
+        made_on_both(&rt, making, 2, 2, &[])?;
     }
     Ok(())
 }

@@ -14,7 +14,6 @@ use std::test::Fail;
 fn site_that_is_down_declines_all_but_waking_and_ending(rt: HostRuntime) -> Result<(), Fail> {
     on_both(
         &rt,
-        rt.alloc(),
         8,
         8,
         &[
@@ -54,7 +53,6 @@ fn site_that_is_down_declines_all_but_waking_and_ending(rt: HostRuntime) -> Resu
 fn delivery_after_entry_pages_waits_for_the_closing_page(rt: HostRuntime) -> Result<(), Fail> {
     on_both(
         &rt,
-        rt.alloc(),
         8,
         8,
         &[
@@ -75,7 +73,6 @@ fn delivery_after_entry_pages_waits_for_the_closing_page(rt: HostRuntime) -> Res
 fn partial_site_declines_begin_deliver_and_page(rt: HostRuntime) -> Result<(), Fail> {
     on_both(
         &rt,
-        rt.alloc(),
         8,
         8,
         &[
@@ -104,7 +101,6 @@ fn partial_site_declines_begin_deliver_and_page(rt: HostRuntime) -> Result<(), F
 fn only_a_site_that_is_down_wakes(rt: HostRuntime) -> Result<(), Fail> {
     on_both(
         &rt,
-        rt.alloc(),
         8,
         8,
         &[

@@ -13,7 +13,6 @@ use std::test::Fail;
 fn page_is_taken_once_every_slot_is_empty(rt: HostRuntime) -> Result<(), Fail> {
     on_both(
         &rt,
-        rt.alloc(),
         8,
         8,
         &[
@@ -37,7 +36,6 @@ fn page_is_taken_once_every_slot_is_empty(rt: HostRuntime) -> Result<(), Fail> {
 fn words_that_are_no_page_are_declined(rt: HostRuntime) -> Result<(), Fail> {
     on_both(
         &rt,
-        rt.alloc(),
         8,
         8,
         &[
@@ -57,7 +55,6 @@ fn words_that_are_no_page_are_declined(rt: HostRuntime) -> Result<(), Fail> {
 fn only_the_entry_after_the_last_is_taken(rt: HostRuntime) -> Result<(), Fail> {
     on_both(
         &rt,
-        rt.alloc(),
         8,
         8,
         &[
@@ -74,7 +71,6 @@ fn only_the_entry_after_the_last_is_taken(rt: HostRuntime) -> Result<(), Fail> {
 fn closing_page_lowers_nothing(rt: HostRuntime) -> Result<(), Fail> {
     on_both(
         &rt,
-        rt.alloc(),
         8,
         8,
         &[
@@ -100,7 +96,6 @@ fn closing_page_lowers_nothing(rt: HostRuntime) -> Result<(), Fail> {
 fn entry_is_declined_where_the_log_is_full(rt: HostRuntime) -> Result<(), Fail> {
     on_both(
         &rt,
-        rt.alloc(),
         8,
         2,
         &[
@@ -119,7 +114,6 @@ fn entry_is_declined_where_the_log_is_full(rt: HostRuntime) -> Result<(), Fail> 
 fn pages_are_written_from_the_floor_to_the_last_version(rt: HostRuntime) -> Result<(), Fail> {
     on_both(
         &rt,
-        rt.alloc(),
         8,
         8,
         &[

@@ -124,13 +124,13 @@ fn drive<S: Store + Drop, L: Log + Drop>(
 
 // Makes sites with room for so many records, and for so many entries of one write, and takes the turns, over both pairs.
 pub(crate) fn made_on_both(
-    rt: &impl Abort,
-    heap: Global,
+    rt: &(impl Abort + AllocGlobal),
     making: Making,
     records: u8,
     entries: u8,
     turns: &[Turn],
 ) -> Result<(), Fail> {
+    let heap = rt.alloc();
     let (store, log) = (journal(heap, records)?, flat(heap, entries)?);
     drive(rt, "journal and flat", making, store, log, turns);
     let (store, log) = (chains(heap, records)?, packed(heap, entries)?);
@@ -140,8 +140,7 @@ pub(crate) fn made_on_both(
 
 // Takes the turns at site 0 over both pairs.
 pub(crate) fn on_both(
-    rt: &impl Abort,
-    heap: Global,
+    rt: &(impl Abort + AllocGlobal),
     records: u8,
     entries: u8,
     turns: &[Turn],
@@ -151,5 +150,5 @@ pub(crate) fn on_both(
         before: Before::Nothing,
         refusal: None,
     };
-    made_on_both(rt, heap, making, records, entries, turns)
+    made_on_both(rt, making, records, entries, turns)
 }

@@ -15,7 +15,6 @@ use std::test::Fail;
 fn only_the_next_place_is_taken(rt: HostRuntime) -> Result<(), Fail> {
     on_both(
         &rt,
-        rt.alloc(),
         8,
         8,
         &[
@@ -37,7 +36,6 @@ fn only_the_next_place_is_taken(rt: HostRuntime) -> Result<(), Fail> {
 fn commit_is_declined_where_the_log_is_full(rt: HostRuntime) -> Result<(), Fail> {
     on_both(
         &rt,
-        rt.alloc(),
         8,
         2,
         &[
@@ -62,7 +60,6 @@ fn commit_is_declined_where_the_log_is_full(rt: HostRuntime) -> Result<(), Fail>
 fn declined_commit_leaves_its_posted_edit_pending(rt: HostRuntime) -> Result<(), Fail> {
     on_both(
         &rt,
-        rt.alloc(),
         8,
         1,
         &[
@@ -80,7 +77,6 @@ fn declined_commit_leaves_its_posted_edit_pending(rt: HostRuntime) -> Result<(),
 fn snapshot_above_the_last_version_is_ahead(rt: HostRuntime) -> Result<(), Fail> {
     on_both(
         &rt,
-        rt.alloc(),
         8,
         8,
         &[
@@ -97,7 +93,6 @@ fn snapshot_above_the_last_version_is_ahead(rt: HostRuntime) -> Result<(), Fail>
 fn edit_is_too_old_by_the_horizon_and_not_by_the_floor(rt: HostRuntime) -> Result<(), Fail> {
     on_both(
         &rt,
-        rt.alloc(),
         8,
         8,
         &[
@@ -129,7 +124,6 @@ fn edit_is_too_old_by_the_horizon_and_not_by_the_floor(rt: HostRuntime) -> Resul
 fn edit_at_the_floor_is_decided_by_the_commits_above_it(rt: HostRuntime) -> Result<(), Fail> {
     on_both(
         &rt,
-        rt.alloc(),
         8,
         8,
         &[
@@ -151,7 +145,6 @@ fn edit_at_the_floor_is_decided_by_the_commits_above_it(rt: HostRuntime) -> Resu
 fn commit_of_the_snapshot_itself_is_not_counted(rt: HostRuntime) -> Result<(), Fail> {
     on_both(
         &rt,
-        rt.alloc(),
         8,
         8,
         &[
@@ -169,7 +162,6 @@ fn commit_of_the_snapshot_itself_is_not_counted(rt: HostRuntime) -> Result<(), F
 fn report_beyond_the_last_version_counts_as_that(rt: HostRuntime) -> Result<(), Fail> {
     on_both(
         &rt,
-        rt.alloc(),
         8,
         8,
         &[

@@ -13,7 +13,6 @@ use std::test::Fail;
 fn post_needs_room_for_each_of_its_words(rt: HostRuntime) -> Result<(), Fail> {
     on_both(
         &rt,
-        rt.alloc(),
         8,
         8,
         &[
@@ -31,7 +30,6 @@ fn post_needs_room_for_each_of_its_words(rt: HostRuntime) -> Result<(), Fail> {
 fn drafts_that_were_posted_are_declined(rt: HostRuntime) -> Result<(), Fail> {
     on_both(
         &rt,
-        rt.alloc(),
         8,
         8,
         &[
@@ -52,7 +50,6 @@ fn drafts_that_were_posted_are_declined(rt: HostRuntime) -> Result<(), Fail> {
 fn draft_with_nothing_written_is_read_only(rt: HostRuntime) -> Result<(), Fail> {
     on_both(
         &rt,
-        rt.alloc(),
         8,
         8,
         &[
@@ -68,7 +65,6 @@ fn draft_with_nothing_written_is_read_only(rt: HostRuntime) -> Result<(), Fail> 
 fn report_of_keep_needs_room_for_two_words(rt: HostRuntime) -> Result<(), Fail> {
     on_both(
         &rt,
-        rt.alloc(),
         8,
         8,
         &[
@@ -92,7 +88,6 @@ fn report_of_keep_needs_room_for_two_words(rt: HostRuntime) -> Result<(), Fail> 
 fn posted_edit_is_pending_until_its_own_words_are_decided(rt: HostRuntime) -> Result<(), Fail> {
     on_both(
         &rt,
-        rt.alloc(),
         8,
         8,
         &[
@@ -127,7 +122,6 @@ fn posted_edit_is_pending_until_its_own_words_are_decided(rt: HostRuntime) -> Re
 fn edit_that_was_let_go_is_decided_and_not_told(rt: HostRuntime) -> Result<(), Fail> {
     on_both(
         &rt,
-        rt.alloc(),
         8,
         8,
         &[

@@ -21,18 +21,18 @@ fn messages_are_told_by_their_kind(rt: HostRuntime) {
 
 #[test]
 fn message_reads_as_its_words(rt: HostRuntime) -> Result<(), Fail> {
-    let edits = Trial::new(&rt, rt.alloc(), &Messages, 3);
+    let edits = Trial::new(&rt, &Messages, 3);
     assert!(rt; edits.reads(&EDIT_WORDS)?);
-    let reports = Trial::new(&rt, rt.alloc(), &Messages, 2);
+    let reports = Trial::new(&rt, &Messages, 2);
     assert!(rt; reports.reads(&REPORT_WORDS)?);
     Ok(())
 }
 
 #[test]
 fn message_cut_at_any_length_is_void(rt: HostRuntime) -> Result<(), Fail> {
-    let edits = Trial::new(&rt, rt.alloc(), &Messages, 3);
+    let edits = Trial::new(&rt, &Messages, 3);
     edits.no_front_reads(&EDIT_WORDS)?;
-    let reports = Trial::new(&rt, rt.alloc(), &Messages, 2);
+    let reports = Trial::new(&rt, &Messages, 2);
     reports.no_front_reads(&REPORT_WORDS)
 }
 
@@ -50,7 +50,7 @@ fn edit_with_a_bit_turned_is_void_or_its_words(rt: HostRuntime) -> Result<(), Fa
         0x1000_0000,
     ];
     let mut words = EDIT_WORDS;
-    let trial = Trial::new(&rt, rt.alloc(), &Messages, 8);
+    let trial = Trial::new(&rt, &Messages, 8);
     trial.just_these_turn(&mut words, &free)
 }
 
@@ -58,7 +58,7 @@ fn edit_with_a_bit_turned_is_void_or_its_words(rt: HostRuntime) -> Result<(), Fa
 fn report_with_a_bit_turned_is_void_or_its_words(rt: HostRuntime) -> Result<(), Fail> {
     let free = [0x0700_0000, 0x0fff_ffff];
     let mut words = REPORT_WORDS;
-    let trial = Trial::new(&rt, rt.alloc(), &Messages, 8);
+    let trial = Trial::new(&rt, &Messages, 8);
     trial.just_these_turn(&mut words, &free)
 }
 

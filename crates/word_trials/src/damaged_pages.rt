@@ -6,7 +6,7 @@ use words::pages::read_page;
 
 #[test]
 fn page_reads_as_its_words(rt: HostRuntime) -> Result<(), Fail> {
-    let trial = Trial::new(&rt, rt.alloc(), &Pages, 3);
+    let trial = Trial::new(&rt, &Pages, 3);
     assert!(rt; trial.reads(&ENTRY_WORDS)?);
     assert!(rt; trial.reads(&CLOSING_WORDS)?);
     Ok(())
@@ -14,7 +14,7 @@ fn page_reads_as_its_words(rt: HostRuntime) -> Result<(), Fail> {
 
 #[test]
 fn page_cut_at_any_length_is_none(rt: HostRuntime) -> Result<(), Fail> {
-    let trial = Trial::new(&rt, rt.alloc(), &Pages, 3);
+    let trial = Trial::new(&rt, &Pages, 3);
     trial.no_front_reads(&ENTRY_WORDS)?;
     trial.no_front_reads(&CLOSING_WORDS)
 }
@@ -32,7 +32,7 @@ fn entry_with_a_bit_turned_is_none_or_its_words(rt: HostRuntime) -> Result<(), F
         0x1000_0000,
     ];
     let mut words = ENTRY_WORDS;
-    let trial = Trial::new(&rt, rt.alloc(), &Pages, 8);
+    let trial = Trial::new(&rt, &Pages, 8);
     trial.just_these_turn(&mut words, &free)
 }
 
@@ -48,7 +48,7 @@ fn closing_with_a_bit_turned_is_none_or_its_words(rt: HostRuntime) -> Result<(),
         0x0000_0003,
     ];
     let mut words = CLOSING_WORDS;
-    let trial = Trial::new(&rt, rt.alloc(), &Pages, 3);
+    let trial = Trial::new(&rt, &Pages, 3);
     trial.just_these_turn(&mut words, &free)
 }
 

@@ -94,28 +94,22 @@ impl Form for Pages {
 
 // Words tried as a message or a page of a group of so many sites.
 #[derive(Drop)]
-pub struct Trial<'a, A: Abort, F: Form> {
+pub struct Trial<'a, A: Abort + AllocGlobal, F: Form> {
     rt: &'a A,
-    heap: Global,
     form: &'a F,
     sites: u32,
 }
 
-impl<'a, A: Abort, F: Form> Trial<'a, A, F> {
-    pub fn new(rt: &'a A, heap: Global, form: &'a F, sites: u32) -> Trial<'a, A, F> {
-        Trial {
-            rt,
-            heap,
-            form,
-            sites,
-        }
+impl<'a, A: Abort + AllocGlobal, F: Form> Trial<'a, A, F> {
+    pub fn new(rt: &'a A, form: &'a F, sites: u32) -> Trial<'a, A, F> {
+        Trial { rt, form, sites }
     }
 
     // Whether the words are a message or page. If they are, it has these words and no others.
     pub fn reads(&self, words: &[u32]) -> Result<bool, Fail> {
         let rt = self.rt;
         let mut out = [0; 40];
-        let Some(count) = self.form.respell(self.heap, words, self.sites, &mut out)? else {
+        let Some(count) = self.form.respell(rt.alloc(), words, self.sites, &mut out)? else {
             return Ok(false);
         };
         assert!(rt; count <= 40);
