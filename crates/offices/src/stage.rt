@@ -26,7 +26,8 @@ pub struct Stage<'a> {
     pub heap: Global,
     // None where a group cannot have so many sites.
     group: Option<Group<AnySite>>,
-    // Of each site of the group, whether its line was played. Its length tells which sites there are, which a set of those played would not.
+    // Of each site of the group, whether its line was played. Its length tells which sites there are, which a set of those
+    // played would not.
     made: Vec<bool>,
     edits: BTreeMap<&'a [u8], Edit>,
     messages: BTreeMap<&'a [u8], Vec<u32>>,

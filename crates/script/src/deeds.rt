@@ -78,7 +78,8 @@ fn parse_bare<'a>(deed: Deed<'a>, text: &[u8]) -> Result<Deed<'a>, Fault>
     Ok(deed)
 }
 
-// A call with the text after its name. A verb and a match, since each call takes other arguments: a table could only hold pointers to functions.
+// A call with the text after its name. A verb and a match, since each call takes other arguments: a table could only hold
+// pointers to functions.
 pub(crate) fn parse_deed<'a>(verb: Verb, text: &'a [u8]) -> Result<Deed<'a>, Fault>
     ensures { told deed_value result ≡ deed_in verb (words text.now) }
 {

@@ -52,7 +52,8 @@ pub fn decimal(word: &[u8]) -> Option<u32>
     number(word, 10)
 }
 
-// The number as a signed one, if 32 bits hold it. Apart from `negative`: each states its own bound, and one with a sign would match on it.
+// The number as a signed one, if 32 bits hold it. Apart from `negative`: each states its own bound, and one with a sign would
+// match on it.
 fn positive(number: u32) -> Option<i32>
     ensures { result ≡ positive_of (below (2 ^ 31) number) }
 {
@@ -116,7 +117,8 @@ fn hex_digit(word: u32) -> u8
     }
 }
 
-/// The eight hexadecimal digits of the word, the letters upper-case: what `hex_word` reads as that word. For those who print words.
+/// The eight hexadecimal digits of the word, the letters upper-case: what `hex_word` reads as that word. For those who print
+/// words.
 pub fn hex_digits(word: u32) -> [u8; 8]
     ensures { hex_word_of result ≡ Some word }
 {
