@@ -2,7 +2,7 @@
 ghost use Rattle.std.specs.Prelude.{◌≡◌, ◌+◌, true, is_some, IfOk, if◌then◌else◌};
 ghost use Rattle.words.specs.Writes.{change_of, first_write, after_write, leading, change_word, change_fits, write_fits, all_fit, fit_from, valid_writes};
 
-use crate::bits::{Kind, fits, has_kind, is_value, load, make_word, value, value_bits, word_kind};
+use crate::bits::{Kind, fits, has_kind, is_value, load, make_word, value, value_bits};
 use std::alloc::{AllocError, Global};
 
 #[derive(Clone, Copy, PartialEq, Eq, Debug)]
@@ -21,10 +21,12 @@ pub struct Write {
 pub(crate) fn read_change(word: u32) -> Option<Change>
     ensures { result ≡ change_of word }
 {
-    match word_kind(word) {
-        Some(Kind::Value) => Some(Change::Set(value(load(word)))),
-        Some(Kind::Removal) if load(word) == 0 => Some(Change::Remove),
-        _ => None,
+    if has_kind(word, Kind::Value) {
+        Some(Change::Set(value(load(word))))
+    } else if word == make_word(Kind::Removal, 0) {
+        Some(Change::Remove)
+    } else {
+        None
     }
 }
 
@@ -104,7 +106,11 @@ pub fn all_fit(writes: &[Write]) -> bool
 fn do_rise(writes: &[Write]) -> bool
     ensures { result ≡ fit_from 0 writes.now }
 {
-    all_fit(writes) && writes.is_sorted_by(|write, next| write.item < next.item)
+    let Some(first) = writes.first() else {
+        return true;
+    };
+    is_in_range(*first)
+        && writes.is_sorted_by(|write, next| write.item < next.item && is_in_range(*next))
 }
 
 // Whether these can be the writes of one edit: 1 to 16, in range, by rising item.
