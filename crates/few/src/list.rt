@@ -6,8 +6,9 @@ use std::alloc::AllocError;
 /// A list of at most `N` items. Its memory holds `N` of them, of which the first `count` are the list's. It is for places where
 /// no call may fail for want of memory and a copy is wanted, so that a `Vec` does not do.
 pub struct Few<T, const N: usize> {
-    pub(crate) items: [T; N],
+    // First, so that it lies beside the first items: what reads one of many lists touches one line of the cache.
     pub(crate) count: usize,
+    pub(crate) items: [T; N],
     ghost memory: { length items ≡ N },
     ghost few: { count ≤ N },
 }
