@@ -16,6 +16,9 @@ use crate::tally::Tally;
 use std::array;
 use words::changes::Change;
 
+// A row of so many records is linked in arrays of as many, since to clear those for the most costs more than such a row.
+const FEW_RECORDS: usize = 256;
+
 impl Journal {
     /// A fresh store in the memory of the records: as many as they are, at most 4,096.
     pub fn new(records: Vec<Record>) -> Journal
@@ -38,22 +41,25 @@ fn latest(row: &[Record], item: u32, at: u32) -> Option<Record>
 }
 
 // All slots in order.
-fn number_slots() -> [u16; MOST_RECORDS]
-    ensures { result ≡ range_with_len 0 4096 }
+fn number_slots<const N: usize>() -> [u16; N]
+    requires { N ≤ 4096 }
+    ensures { result ≡ range_with_len 0 N }
 {
     array::from_fn(|i| i as u16)
 }
 
-// Marks each record of the row that a prune to `to` removes. The records are linked for this call alone, in slots that are
-// their places, so that each is compared with those of its own chain.
-fn mark_replaced(row: &[Record], to: u32, gone: &mut [bool])
-    requires small { length row.now ≤ 4096 }
+// Marks each record of a row of at most N that a prune to `to` removes. The records are linked for this call alone, in slots
+// that are their places, so that each is compared with those of its own chain.
+fn mark_linked<const N: usize>(row: &[Record], to: u32, gone: &mut [bool])
+    requires most { N ≤ 4096 }
+    requires small { length row.now ≤ N }
     requires marks { length row.now ≤ length gone.old }
     ensures { gone.new ≡ replaced to row.now ++ drop (length row.now) gone.old }
 {
     // In arrays, since a prune may not fail for want of memory.
-    let slots = number_slots();
-    let mut next = [0; MOST_RECORDS];
+    let numbers = number_slots::<N>();
+    let slots = &numbers[..];
+    let mut next = [0; N];
     let mut heads = [0; CHAINS];
     let count = row.len();
     let row = InSlots {
@@ -68,6 +74,19 @@ fn mark_replaced(row: &[Record], to: u32, gone: &mut [bool])
         count,
     };
     linked.mark_replaced(to, gone);
+}
+
+// Marks each record of the row that a prune to `to` removes, in arrays that are short where the row is.
+fn mark_replaced(row: &[Record], to: u32, gone: &mut [bool])
+    requires small { length row.now ≤ 4096 }
+    requires marks { length row.now ≤ length gone.old }
+    ensures { gone.new ≡ replaced to row.now ++ drop (length row.now) gone.old }
+{
+    if row.len() <= FEW_RECORDS {
+        mark_linked::<FEW_RECORDS>(row, to, gone);
+    } else {
+        mark_linked::<MOST_RECORDS>(row, to, gone);
+    }
 }
 
 impl Store for Journal {
