@@ -6,3 +6,4 @@ mod Tables
 mod PageLaws
 mod Laid
 mod Spelt
+mod Pasted

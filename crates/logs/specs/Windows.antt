@@ -29,7 +29,7 @@ place_apart size s i j h l m = grind (arith, nat_tests)
 pub place_within : (size s i : ℕ) → s ≤ size → i ≤ size → place_after size s i ≤ size
 place_within size s i h l = grind (arith, nat_tests)
 
-place_further : (size s i j : ℕ) → s ≤ size → i + j < size → place_after size (place_after size s i) j ≡ place_after size s (i + j)
+pub place_further : (size s i j : ℕ) → s ≤ size → i + j < size → place_after size (place_after size s i) j ≡ place_after size s (i + j)
 place_further size s i j h l = grind (arith, nat_tests)
 
 module _ {X : Type 0} (xs : List X) (s : ℕ) (within : s ≤ length xs) where

@@ -1,5 +1,5 @@
 // The interface of a log.
-ghost use Rattle.std.specs.Prelude.{◌≡◌, length, is_ok};
+ghost use Rattle.std.specs.Prelude.{◌≡◌, ℕ, length, is_ok};
 ghost use Rattle.std.specs.List.{slice_get};
 ghost use Rattle.std.specs.Option.{option_map};
 ghost use Rattle.logs.specs.LogModel.{LogModel, Bounded, entry_of, last_version, entry_at, head_of, write_of, least, can_commit, committed, can_copy, copied, passed, noted, closed, ticketed, trimmed};
@@ -18,6 +18,11 @@ pub trait Log {
     const ENTRY_COST: u32;
 
     const WRITE_COST: u32;
+
+    // The same numbers, for proofs: a constant that is changed alone is refused.
+    ghost ENTRY_COST: { ℕ };
+
+    ghost WRITE_COST: { ℕ };
 
     // What the log holds.
     ghost model: { Self → LogModel };

@@ -46,6 +46,10 @@ impl<H: Holder> Log for Kept<H> {
 
     const WRITE_COST: u32 = H::WRITE_COST;
 
+    ghost ENTRY_COST = { H.ENTRY_COST };
+
+    ghost WRITE_COST = { H.WRITE_COST };
+
     ghost model = { kept_model H.held };
 
     ghost bounded = { λ l. kept_bounded H.held H.bounds l };
@@ -71,7 +75,7 @@ impl<H: Holder> Log for Kept<H> {
     }
 
     fn costs(&self) -> (u32, u32) {
-        (H::ENTRY_COST, H::WRITE_COST)
+        (Self::ENTRY_COST, Self::WRITE_COST)
     }
 
     fn sites(&self) -> u32 {

@@ -1,5 +1,5 @@
 // What a ring does.
-ghost use Rattle.std.specs.Prelude.{◌≡◌, ◌+◌, ◌-◌, ◌<◌, ◌≤◌, min, [], ◌∷◌, ◌++◌, length, drop, vec_len, slice_index_or};
+ghost use Rattle.std.specs.Prelude.{◌≡◌, ◌+◌, ◌-◌, ◌<◌, ◌≤◌, min, [], ◌∷◌, ◌++◌, length, take, drop, vec_len, slice_index_or};
 ghost use Rattle.logs.specs.Window.{place_after};
 ghost use Rattle.logs.specs.RingModel.{ring_items, ring_size};
 
@@ -13,6 +13,14 @@ fn place_after(size: usize, start: usize, by: usize) -> usize
 {
     let to_end = size - start;
     if by < to_end { start + by } else { by - to_end }
+}
+
+// Writes the items over those from the place on.
+fn overwrite<T: Copy>(memory: &mut [T], place: usize, items: &[T])
+    requires { place + length items.now ≤ length memory.old }
+    ensures { memory.new ≡ take place memory.old ++ (items.now ++ drop (place + length items.now) memory.old) }
+{
+    memory[place..place + items.len()].copy_from_slice(items);
 }
 
 impl<T: Copy> Ring<T> {
@@ -63,14 +71,20 @@ impl<T: Copy> Ring<T> {
         self.count += 1;
     }
 
-    // Adds elements at the end.
+    // Adds elements at the end: in one piece, or one by one where they go on from the memory's beginning.
     pub(crate) fn extend(&mut self, items: &[T])
         requires { length (ring_items self.old) + length items.now ≤ ring_size self.old }
         ensures items { ring_items self.new ≡ ring_items self.old ++ items.now }
         ensures size { ring_size self.new ≡ ring_size self.old }
     {
-        for item in items {
-            self.push(*item);
+        let end = place_after(self.memory.len(), self.start, self.count);
+        if items.len() <= self.memory.len() - end {
+            overwrite(self.memory.as_mut_slice(), end, items);
+            self.count += items.len();
+        } else {
+            for item in items {
+                self.push(*item);
+            }
         }
     }
 
