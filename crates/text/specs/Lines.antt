@@ -1,5 +1,5 @@
 -- Lines that have words, with their numbers.
-use Rattle.std.specs.Prelude.{◌≡◌, ℕ, ◌+◌, ◌-◌, ◌^◌, min, cond, List, [], ◌∷◌, MatchOption, Option}
+use Rattle.std.specs.Prelude.{◌≡◌, ℕ, ◌+◌, ◌-◌, ◌<◌, ◌^◌, length, min, cond, List, [], ◌∷◌, MatchOption, Option}
 use Rattle.std.specs.Iterator.{Count, YieldsFirstBy, item_count}
 use Rattle.text.specs.Split.{content_of, lines, words, none_in}
 use Rattle.text.specs.declared.lines.Line.{Line}
@@ -33,8 +33,9 @@ counted n (l ∷ ls) = counted (number_after n) ls
 abbrev pub lines_in_all : Lines → ℕ
 lines_in_all s = counted s.number (lines s.rest.now)
 
--- Each call gives the first line of those that are left, and the text that is read on from then; at the end all lines are counted.
+-- Each call gives the first line of those that are left, and the text that is read on from then, which is shorter than the text
+-- before; at the end all lines are counted.
 abbrev pub NextLine : Lines → Option Line → Lines → Type 0
 NextLine s r t =
     YieldsFirstBy line_value lines_left s r t × (lines_in_all t ≡ lines_in_all s)
-    × MatchOption r (lines t.rest.now ≡ []) (λ line. (line.after ≡ t.rest) × (line.number ≡ t.number))
+    × MatchOption r (lines t.rest.now ≡ []) (λ line. (line.after ≡ t.rest) × (line.number ≡ t.number) × (length line.after.now < length s.rest.now))
