@@ -1,16 +1,17 @@
 // A site as its callers see it: by its model only, whatever its store and its log are.
 ghost use Rattle.std.specs.Prelude.{◌≡◌, length};
 ghost use Rattle.site.specs.SiteModel.{SiteModel, site_model};
-ghost use Rattle.site.specs.Calls.{called, landed};
+ghost use Rattle.site.specs.Calls.{called, told, landed, Done, Value, Read, Put};
 ghost use Rattle.site.specs.Spoken.{asked, heard, shown, shown_as, is_new, Bounded};
 ghost use Rattle.site.specs.SiteBounds.{site_bounded};
 
 use crate::gather::known_of;
-use crate::handles::{Draft, Handle};
+use crate::handles::{Draft, Handle, Posted};
 use crate::modes::Mode;
 use crate::refusals::Refusal;
 use crate::site::Site;
 use crate::site::changes::Stepped;
+use crate::site::posts::{Answered, Sent};
 use account::decisions::Decision;
 use few::Few;
 use logs::api::Log;
@@ -95,6 +96,28 @@ pub trait Calls {
     ghost bounded: { (s : Self) → Bounded (model s) };
 }
 
+// Calls by the numbers of a draft's handle: the draft is made for the one call and taken apart after it. A made-up handle is
+// no slot's.
+impl<S: Store, L: Log> Site<S, L> {
+    fn read_by(&self, handle: Handle, item: u32) -> Result<Option<i32>, Refusal>
+        ensures { (told Value result, site_model S.Store.model L.Log.model self.now) ≡ called (site_model S.Store.model L.Log.model self.now) (Read handle item) }
+    {
+        let draft = Draft(handle);
+        let value = self.read(&draft, item);
+        let Draft(_) = draft;
+        value
+    }
+
+    fn write_by(&mut self, handle: Handle, write: Write) -> Result<(), Refusal>
+        ensures { (told (λ _. Done) result, site_model S.Store.model L.Log.model self.new) ≡ called (site_model S.Store.model L.Log.model self.old) (Put handle write) }
+    {
+        let draft = Draft(handle);
+        let written = self.write(&draft, write);
+        let Draft(_) = draft;
+        written
+    }
+}
+
 impl<S: Store, L: Log> Calls for Site<S, L> {
     ghost model = { site_model S.Store.model L.Log.model };
 
@@ -135,20 +158,29 @@ impl<S: Store, L: Log> Calls for Site<S, L> {
                 self.write_by(handle, write)?;
                 Response::Done
             }
-            Request::Post(handle) => match self.post_by(handle, out)? {
-                Some(count) => Response::Sent(handle, count),
-                None => Response::ReadOnly,
+            Request::Post(handle) => match self.post(Draft(handle), out) {
+                Ok(
+                    Some(
+                        Sent {
+                            posted: Posted(handle),
+                            count,
+                        },
+                    ),
+                ) => Response::Sent(handle, count),
+                Ok(None) => Response::ReadOnly,
+                Err((refusal, Draft(_))) => return Err(refusal),
             },
             Request::GiveUp(handle) => {
-                self.give_up_by(handle);
+                self.give_up(Draft(handle));
                 Response::Done
             }
-            Request::Outcome(handle) => match self.outcome_by(handle)? {
-                Some(decision) => Response::Told(decision),
-                None => Response::Pending,
+            Request::Outcome(handle) => match self.outcome(Posted(handle)) {
+                Ok(Answered::Decided(decision)) => Response::Told(decision),
+                Ok(Answered::Pending(Posted(_))) => Response::Pending,
+                Err((refusal, Posted(_))) => return Err(refusal),
             },
             Request::LetGo(handle) => {
-                self.let_go_by(handle);
+                self.let_go(Posted(handle));
                 Response::Done
             }
             Request::Deliver(place) => Response::Told(self.deliver(place, words)?),

@@ -1,5 +1,4 @@
-// Calls of a draft: it begins, reads, writes and is given up. A look reads without one. What is by the handle alone is for
-// callers that have no more than its numbers; a made-up handle is no slot's.
+// Calls of a draft: it begins, reads, writes and is given up. A look reads without one.
 ghost use Rattle.std.specs.Prelude.{◌≡◌, ◌<◌, OnSome};
 ghost use Rattle.site.specs.Handles.{draft_handle};
 ghost use Rattle.site.specs.Slots.{edit_of};
@@ -65,14 +64,8 @@ impl<S: Store, L: Log> Site<S, L> {
     pub fn read(&self, draft: &Draft, item: u32) -> Result<Option<i32>, Refusal>
         ensures { (told Value result, site_model S.Store.model L.Log.model self.now) ≡ called (site_model S.Store.model L.Log.model self.now) (Read (draft_handle draft.now) item) }
     {
-        self.read_by(draft.0, item)
-    }
-
-    pub(crate) fn read_by(&self, handle: Handle, item: u32) -> Result<Option<i32>, Refusal>
-        ensures { (told Value result, site_model S.Store.model L.Log.model self.now) ≡ called (site_model S.Store.model L.Log.model self.now) (Read handle item) }
-    {
         admit(self.mode, Event::Other)?;
-        let edit = self.drafted(handle).ok_or(Refusal::NotYours)?;
+        let edit = self.drafted(draft.0).ok_or(Refusal::NotYours)?;
         if item > LIMIT {
             return Err(Refusal::OutOfRange);
         }
@@ -87,14 +80,8 @@ impl<S: Store, L: Log> Site<S, L> {
     pub fn write(&mut self, draft: &Draft, write: Write) -> Result<(), Refusal>
         ensures { (told (λ _. Done) result, site_model S.Store.model L.Log.model self.new) ≡ called (site_model S.Store.model L.Log.model self.old) (Put (draft_handle draft.now) write) }
     {
-        self.write_by(draft.0, write)
-    }
-
-    pub(crate) fn write_by(&mut self, handle: Handle, write: Write) -> Result<(), Refusal>
-        ensures { (told (λ _. Done) result, site_model S.Store.model L.Log.model self.new) ≡ called (site_model S.Store.model L.Log.model self.old) (Put handle write) }
-    {
         admit(self.mode, Event::Other)?;
-        let mut edit = *self.drafted(handle).ok_or(Refusal::NotYours)?;
+        let mut edit = *self.drafted(draft.0).ok_or(Refusal::NotYours)?;
         if self.change.is_some() {
             return Err(Refusal::ChangeUnderWay);
         }
@@ -102,7 +89,7 @@ impl<S: Store, L: Log> Site<S, L> {
             return Err(Refusal::OutOfRange);
         }
         edit.put(write)?;
-        self.slots.put(handle.slot, Slot::Open(edit));
+        self.slots.put(draft.0.slot, Slot::Open(edit));
         Ok(())
     }
 
@@ -111,12 +98,6 @@ impl<S: Store, L: Log> Site<S, L> {
         ensures { (Done, site_model S.Store.model L.Log.model self.new) ≡ called (site_model S.Store.model L.Log.model self.old) (GiveUp (draft_handle draft)) }
     {
         let Draft(handle) = draft;
-        self.give_up_by(handle);
-    }
-
-    pub(crate) fn give_up_by(&mut self, handle: Handle)
-        ensures { (Done, site_model S.Store.model L.Log.model self.new) ≡ called (site_model S.Store.model L.Log.model self.old) (GiveUp handle) }
-    {
         if self.drafted(handle).is_some() {
             self.slots.put(handle.slot, Slot::Empty);
         }

@@ -1,5 +1,5 @@
-// Calls of a posted edit, and the words that a site sends: post, outcome, let go, report. What is by the handle
-// alone is for callers that have no more than its numbers; a made-up handle is no slot's.
+// Calls of a posted edit, and the words that a site sends: post, outcome, let go, report. What is by the handle alone says
+// a refusal by `?`; the public call gives the draft or the posted edit back.
 ghost use Rattle.std.specs.Prelude.{◌≡◌, ◌<◌, T, length};
 ghost use Rattle.site.specs.Handles.{draft_handle, posted_handle};
 ghost use Rattle.site.specs.SiteModel.{site_model};
@@ -55,11 +55,8 @@ impl<S: Store, L: Log> Site<S, L> {
         }
     }
 
-    pub(crate) fn post_by(
-        &mut self,
-        handle: Handle,
-        out: &mut [u32],
-    ) -> Result<Option<usize>, Refusal>
+    // Posts the edit of the handle: how many words there are, if any were to be written.
+    fn post_by(&mut self, handle: Handle, out: &mut [u32]) -> Result<Option<usize>, Refusal>
         ensures told { (told (sending handle out.new) result, site_model S.Store.model L.Log.model self.new) ≡ called (site_model S.Store.model L.Log.model self.old) (Post handle (length out.old)) }
         ensures buffer { out.new ≡ landed (told (sending handle out.new) result) out.old }
     {
@@ -87,7 +84,8 @@ impl<S: Store, L: Log> Site<S, L> {
         }
     }
 
-    pub(crate) fn outcome_by(&mut self, handle: Handle) -> Result<Option<Decision>, Refusal>
+    // The decision of the posted edit of the handle, if there is one.
+    fn outcome_by(&mut self, handle: Handle) -> Result<Option<Decision>, Refusal>
         ensures { (told outcome_of result, site_model S.Store.model L.Log.model self.new) ≡ called (site_model S.Store.model L.Log.model self.old) (Outcome handle) }
     {
         admit(self.mode, Event::Other)?;
@@ -106,12 +104,6 @@ impl<S: Store, L: Log> Site<S, L> {
         ensures { (Done, site_model S.Store.model L.Log.model self.new) ≡ called (site_model S.Store.model L.Log.model self.old) (LetGo (posted_handle posted)) }
     {
         let Posted(handle) = posted;
-        self.let_go_by(handle);
-    }
-
-    pub(crate) fn let_go_by(&mut self, handle: Handle)
-        ensures { (Done, site_model S.Store.model L.Log.model self.new) ≡ called (site_model S.Store.model L.Log.model self.old) (LetGo handle) }
-    {
         if self.awaits(handle) {
             self.slots.put(handle.slot, Slot::Empty);
         }
