@@ -4,6 +4,7 @@ use site::calls::{Response, Shown};
 use site::refusals::Refusal;
 use std::fmt;
 use std::fmt::Write;
+use text::numbers::hex_digits;
 use text::split::Words;
 
 /// The words of a line that was understood, parted by single spaces.
@@ -24,7 +25,7 @@ impl fmt::Display for Spaced<'_> {
     }
 }
 
-// A word of a line that was understood: all its bytes are ASCII.
+// A word of a line that was understood, or one that is spelt: all its bytes are ASCII.
 fn put_word<W: fmt::Write>(f: &mut fmt::Formatter<W>, word: &[u8]) -> fmt::Result {
     for byte in word {
         f.write_char(*byte as char)?;
@@ -105,7 +106,8 @@ fn done_name(deed: Deed) -> &'static str {
 fn put_words<W: fmt::Write>(f: &mut fmt::Formatter<W>, what: &str, words: &[u32]) -> fmt::Result {
     f.write_str(what)?;
     for word in words {
-        write!(f, " {word:08X}")?;
+        f.write_str(" ")?;
+        put_word(f, &hex_digits(*word))?;
     }
     Ok(())
 }

@@ -1,5 +1,5 @@
 // A call at a site, from what the line asks for to what names stand for afterwards.
-ghost use Rattle.std.specs.Prelude.{length};
+ghost use Rattle.std.specs.Prelude.{min, length, take};
 ghost use Rattle.site.specs.Spoken.{asked};
 ghost use Rattle.group.specs.Groups.{heard_in, Lawful};
 ghost use Rattle.offices.specs.Playing.{sites_of};
@@ -18,26 +18,28 @@ use words::changes::Write;
 // The most words that a buffer has.
 const MOST_ROOM: usize = 40;
 
-// How many words the buffer of the call has; a call that writes nothing is given one too.
+// How many words the line asks for in the buffer; a call that writes nothing is given one too.
 fn room_of(deed: Deed) -> usize {
     let room = match deed {
         Deed::Post(_, buffer) | Deed::Report(buffer) | Deed::Page(_, buffer) => buffer.room,
         _ => ROOM,
     };
-    (room as usize).min(MOST_ROOM)
+    room as usize
 }
 
-// Makes the call: the one call of the group that the program makes.
+// Makes the call, with so many words of the buffer: the one call of the group that the program makes.
 fn ask_group(
     group: &mut Group<AnySite>,
     site: u32,
     request: Request,
     words: &[u32],
     out: &mut [u32],
+    room: usize,
 ) -> Option<Result<Response, Refusal>>
-    ensures { Lawful (sites_of group.old) (sites_of group.new) site (asked request words.now (length out.old)) (heard_in result out.new) }
+    ensures { Lawful (sites_of group.old) (sites_of group.new) site (asked request words.now (min room (length out.old))) (heard_in result (take (min room (length out.old)) out.new)) }
 {
-    group.call(site, request, words, out)
+    let end = room.min(out.len());
+    group.call(site, request, words, &mut out[0..end])
 }
 
 // The words written stand at the buffer's front.
@@ -134,8 +136,8 @@ impl<'a> Stage<'a> {
         let Some(request) = request else {
             return Ok(Answer::Seen(group.show(site).ok_or(Reason::NoSite)?));
         };
-        let mut written = vec![in self.heap; 0u32; room_of(deed)]?;
-        let response = ask_group(group, site, request, &words, &mut written);
+        let mut written = vec![in self.heap; 0u32; MOST_ROOM]?;
+        let response = ask_group(group, site, request, &words, &mut written, room_of(deed));
         match response.ok_or(Reason::NoSite)? {
             Err(refusal) => Ok(Answer::Declined(refusal)),
             Ok(response) => {
