@@ -25,7 +25,7 @@ impl fmt::Display for Spaced<'_> {
     }
 }
 
-// A word of a line that was understood, or one that is spelt: all its bytes are ASCII.
+// A word of a line that was understood: all its bytes are ASCII.
 fn put_word<W: fmt::Write>(f: &mut fmt::Formatter<W>, word: &[u8]) -> fmt::Result {
     for byte in word {
         f.write_char(*byte as char)?;
@@ -102,12 +102,13 @@ fn done_name(deed: Deed) -> &'static str {
     }
 }
 
-// What was written, and its words.
+// What was written, and its words: their digits are ASCII, so that they are always text.
 fn put_words<W: fmt::Write>(f: &mut fmt::Formatter<W>, what: &str, words: &[u32]) -> fmt::Result {
     f.write_str(what)?;
     for word in words {
         f.write_str(" ")?;
-        put_word(f, &hex_digits(*word))?;
+        let digits = hex_digits(*word);
+        f.write_str(str::from_utf8(&digits).map_err(|_| fmt::Error)?)?;
     }
     Ok(())
 }
