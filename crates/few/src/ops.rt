@@ -38,14 +38,14 @@ impl<T: Copy, const N: usize> Few<T, N> {
         requires { F.IsAlwaysCallable question }
         ensures { Gathers (F.post question) N 0 (few_items result) }
     {
-        let mut few = Few::new(blank);
+        let mut items = [blank; N];
         for i in 0..N {
             let Some(item) = question(i) else {
-                return few;
+                return Few { items, count: i };
             };
-            let _ = few.push(item);
+            items[i] = item;
         }
-        few
+        Few { items, count: N }
     }
 
     pub fn as_slice(&self) -> &[T]

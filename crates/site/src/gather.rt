@@ -1,5 +1,5 @@
 // Writes and known numbers, from words or from a log, gathered into short lists.
-ghost use Rattle.std.specs.Prelude.{◌≡◌, map, take};
+ghost use Rattle.std.specs.Prelude.{◌≡◌, map, take, slice_get};
 ghost use Rattle.few.specs.Lists.{few_items};
 ghost use Rattle.words.specs.Bits.{load_of};
 ghost use Rattle.words.specs.Writes.{leading};
@@ -42,12 +42,18 @@ pub(crate) fn gather_entry<L: Log>(log: &L, version: u32) -> Few<Write, 16>
     )
 }
 
+// The known number at a place of the words.
+fn known_at(words: &[u32], place: usize) -> Option<u32>
+    ensures { result ≡ slice_get (map load_of words.now) place }
+{
+    Some(known_number(*words.get(place)?))
+}
+
 // The known numbers that the words say, at most 8.
 pub(crate) fn gather_known(words: &[u32]) -> Few<u32, 8>
     ensures { few_items result ≡ take 8 (map load_of words.now) }
 {
-    let numbers = Few::<u32, 8>::from_slice(0, words);
-    Few::gather(0, |place| Some(known_number(numbers.get(place)?)))
+    Few::gather(0, |place| known_at(words, place))
 }
 
 // The known numbers of a log.

@@ -116,6 +116,8 @@ impl ClosingParts<'_> {
 
 /// Writes an edit of a group of `sites` sites from the buffer's first word on, leaves the rest of the
 /// buffer, and answers how many words it wrote. Where it refuses, the buffer is as it was.
+// A caller often knows how many writes there are, so that no loop over them is left where this is inlined.
+#[inline]
 pub fn write_edit(out: &mut [u32], sites: u32, edit: EditParts<'_>) -> Result<usize, Refusal>
     ensures answer { reply result ≡ put_answer (valid_message sites (edit_value edit.entry)) (message_words (edit_value edit.entry)) out.old }
     ensures after { out.new ≡ put_after (valid_message sites (edit_value edit.entry)) (message_words (edit_value edit.entry)) out.old }

@@ -68,6 +68,8 @@ fn are_known(words: &[u32], limit: u32) -> bool
     words.iter().all(|word| is_known(*word, limit))
 }
 
+// Inlined, so that its four parts are not put into memory and read back.
+#[inline(always)]
 fn read_closing<'a>(words: &'a [u32], sites: u32) -> Option<Page<'a>>
     ensures page { option_map page_value result ≡ read_closing sites words.now }
     ensures borrowed { PageBorrowed words.entry result }
